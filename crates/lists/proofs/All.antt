@@ -1,0 +1,40 @@
+-- Each of a list has a property. Assumes nothing.
+use Prim.Native.Nat.{ℕ, zero, suc, _<_}
+use mathlib.Core.List.{List, [], _∷_, _++_, map}
+use native.Mathlib.Nat.{le-of-suc-le-suc}
+use native.Mathlib.Omega.{arith}
+use lib.ListN.{length, getD, replicate}
+
+abbrev pub All : {A : Type 0} → (A → Type 0) → List A → Type 0
+All P [] = Unit {0}
+All P (x ∷ xs) = P x × All P xs
+
+module _ {A : Type 0} (P : A → Type 0) where
+  pub all-append : (xs ys : List A) → All P xs → All P ys → All P (xs ++ ys)
+  all-append [] ys hx hy = hy
+  all-append (x ∷ xs) ys hx hy = (hx .0, all-append xs ys (hx .1) hy)
+
+  pub all-replicate : (n : ℕ) (a : A) → P a → All P (replicate n a)
+  all-replicate zero a of-a = tt
+  all-replicate (suc n) a of-a = (of-a, all-replicate n a of-a)
+
+  -- the entry of a number inside the list
+  pub all-within : (xs : List A) (d : A) → All P xs → (i : ℕ) → i < length xs → P (getD xs i d)
+  all-within [] d all i inside = absurd (omega arith)
+  all-within (x ∷ xs) d all zero inside = all .0
+  all-within (x ∷ xs) d all (suc i) inside = all-within xs d (all .1) i (le-of-suc-le-suc inside)
+
+  -- the entry of any number, where what stands for one past the end has the property too
+  pub all-at : (xs : List A) (d : A) → All P xs → P d → (i : ℕ) → P (getD xs i d)
+  all-at [] d all of-d i = of-d
+  all-at (x ∷ xs) d all of-d zero = all .0
+  all-at (x ∷ xs) d all of-d (suc i) = all-at xs d (all .1) of-d i
+
+  pub all-map : {B : Type 0} (f : B → A) (xs : List B) → All (λ x. P (f x)) xs → All P (map f xs)
+  all-map f [] all = tt
+  all-map f (x ∷ xs) all = (all .0, all-map f xs (all .1))
+
+-- each has what follows from the property
+pub all-also : {A : Type 0} (P Q : A → Type 0) → ((x : A) → P x → Q x) → (xs : List A) → All P xs → All Q xs
+all-also P Q also [] all = tt
+all-also P Q also (x ∷ xs) all = (also x (all .0), all-also P Q also xs (all .1))

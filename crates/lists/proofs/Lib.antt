@@ -1,0 +1,5 @@
+-- Laws of the definitions, for the crates above.
+pub mod All
+pub mod Bools
+pub mod Lists
+pub mod SomeOf

@@ -1,0 +1,50 @@
+-- The fast tests for a point, as tests that compute; `PublishingTest` and `ReadingTest` prove them right.
+-- Assumes nothing.
+use Prim.Native.Nat.{ℕ, _≤_}
+use mathlib.Core.Path.{_≡_}
+use mathlib.Core.Logic.{⊎-elim, by-cases}
+use mathlib.Core.Bool.{Bool, true, _&&_, _||_}
+use native.Mathlib.Decide.{decLe}
+use native.Mathlib.Omega.{arith}
+use lib.Dec.{leb}
+use borrow.Author.Tests.{leb-true, le-leb}
+use Rattle.lists.proofs.Bools.{same-test, and-parts, and-of-parts, or-part, or-of-left, or-of-right}
+use Rattle.times.specs.Releases.{Timing, isRelease}
+use Rattle.times.proofs.ReleasesWithin.{releasedFrom, releasedTo}
+
+-- a release of the writer, which has the larger or equal period, or after which the reader is released before it is
+abbrev pub publishingTest : Timing → Timing → ℕ → Bool
+publishingTest writer reader t =
+    isRelease writer t && (leb (reader .period) (writer .period) || releasedFrom reader t (writer .period))
+
+-- a release of the reader, which has the larger or equal period, or before which the writer is released after it was
+abbrev pub readingTest : Timing → Timing → ℕ → Bool
+readingTest writer reader t =
+    isRelease reader t && (leb (writer .period) (reader .period) || releasedTo writer t (reader .period))
+
+-- how a test is put together from the two cases of the periods
+pub test-of-cases
+    : (point released near : Bool) (own other : ℕ)
+    → (point ≡ true → released ≡ true)
+    → (own ≤ other → point ≡ true → near ≡ true)
+    → (other ≤ own → released ≡ true → point ≡ true)
+    → (own ≤ other → released ≡ true → near ≡ true → point ≡ true)
+    → point ≡ (released && (leb other own || near))
+test-of-cases point released near own other is-released is-near slow fast = same-test point _ passes only
+  where
+    passes : point ≡ true → (released && (leb other own || near)) ≡ true
+    passes h =
+        and-of-parts released _ (is-released h)
+        (by-cases (decLe other own)
+        (λ le. or-of-left (leb other own) near (le-leb other own le))
+        (λ more. or-of-right (leb other own) near (is-near (omega arith) h)))
+
+    only : (released && (leb other own || near)) ≡ true → point ≡ true
+    only h =
+        let parts = and-parts released _ h in
+        by-cases (decLe other own)
+        (λ le. slow le (parts .0))
+        (λ more. ⊎-elim
+        (λ le. absurd (more (leb-true other own le)))
+        (λ here. fast (omega arith) (parts .0) here)
+        (or-part (leb other own) near (parts .1)))

@@ -1,0 +1,64 @@
+-- `reading` meets its contract: n·M + (Tr − 1) is below 2^64, and the point is at most that. Assumes nothing.
+use Prim.Native.Nat.{ℕ, _+_, _*_, _-_, _^_, _≤_}
+use mathlib.Core.Path.{sym, ap}
+use native.Mathlib.Nat.{div-mul-le-self}
+use native.Mathlib.Omega.{arith}
+use borrow.Author.Needs.{needs}
+use Rattle.times.specs.Releases.{every, ceil}
+use Rattle.times.specs.Points.{reading}
+use Rattle.times.proofs.PointFormulas.{reading-of-zero}
+use Rattle.times.proofs.Products.{product-at-most}
+use Rattle.times.proofs.points.reading.Statement.{statement}
+use Rattle.times.proofs.points.reading.Tie as tie
+
+returns : tie.Need-returns
+returns c =
+    let args = c .before .args in
+    sym (reading-of-zero (every (args .writer-period)) (every (args .reader-period)) (c .if1 .taken) (args .n))
+
+larger-requires : tie.Need-larger-requires
+larger-requires c κs = search needs
+
+cast-result : tie.Need-cast-result
+cast-result c = search needs
+
+-- n·M, as it is computed
+product : (c : tie.After-larger) → c .before .before .args .n * c .larger .result ≤ (2 ^ 32 - 1) * (2 ^ 32 - 1)
+product c = product-at-most (c .before .before .args .n) (c .larger .result) (omega arith) (omega arith)
+
+mul-result : tie.Need-mul-result
+mul-result c = omega (arith, product c)
+
+sub-result : tie.Need-sub-result
+sub-result c = search needs
+
+add-result : tie.Need-add-result
+add-result c = omega (arith, product c)
+
+div-result : tie.Need-div-result
+div-result c = search needs
+
+mul-result-2 : tie.Need-mul-result-2
+mul-result-2 c =
+    let T = c .before .before .args .reader-period in
+    omega (arith, product c, div-mul-le-self (c .before .before .args .n * c .larger .result + (T - 1)) T)
+
+returns-2 : tie.Need-returns-2
+unfolding reading
+returns-2 c =
+    let args = c .before .before .args in
+    ap (λ (M : ℕ). ceil (args .n * M) (args .reader-period) * args .reader-period) (c .larger .ensures)
+
+pub reading-spec : {M : Type 1} → statement M
+reading-spec =
+    tie.close
+    (tie.spec
+    returns
+    larger-requires
+    cast-result
+    mul-result
+    sub-result
+    add-result
+    div-result
+    mul-result-2
+    returns-2)

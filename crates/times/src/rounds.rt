@@ -1,0 +1,40 @@
+// The length of a round, the hyperperiod H. Document 01: "the least common multiple of the periods of all tasks, at
+// most 1,000,000".
+use crate::divisors::lcm_up_to_limit;
+ghost use mathlib.Core.Path.{_≡_};
+ghost use Prim.Native.Nat.{min};
+ghost use lib.ListN.{take};
+ghost use Rattle.times.specs.Hyperperiod.{lcmOf};
+ghost use Rattle.times.specs.Rounds.{withinLimit};
+
+// The hyperperiod where it is at most 1,000,000, and otherwise that it is above.
+pub enum Round {
+    Within(u32),
+    Above,
+}
+
+// A count of tasks, of which an array of 32 holds no more than 32.
+fn counted(tasks: usize) -> usize
+    ensures { λ r. ⌜ r ≡ min tasks 32 ⌝ }
+{
+    if tasks < 32 { tasks } else { 32 }
+}
+
+// The hyperperiod of the first `tasks` periods. The running value stays at 1,000,001 once it is larger, since the least
+// common multiple with a period above 0 only grows, and with a period of 0 it is 0.
+pub fn hyperperiod(period: [u32; 32], tasks: usize) -> Round
+    ensures { λ r. ⌜ r ≡ withinLimit (lcmOf (take tasks period)) ⌝ }
+{
+    let count = counted(tasks);
+    let mut running: u32 = 1;
+    let mut i = 0;
+    while i < count {
+        running = lcm_up_to_limit(running, period[i]);
+        i += 1;
+    }
+    if running <= 1_000_000 {
+        Round::Within(running)
+    } else {
+        Round::Above
+    }
+}
