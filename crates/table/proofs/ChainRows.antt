@@ -1,0 +1,86 @@
+-- Chains in a row, with the array of their lengths and the rows of their task numbers. No contract cites this file.
+-- Assumes nothing.
+use Prim.Native.Nat.{ℕ, _+_, _*_, _<_, _≤_}
+use mathlib.Core.Path.{_≡_, refl, sym, _∙_}
+use mathlib.Core.List.{List, [], _∷_, _++_, map}
+use native.Mathlib.Omega.{arith}
+use lib.ListN.{length, set, replicate, length-append}
+use Rattle.lists.specs.Lists.{padded}
+use Rattle.table.specs.Outcome.{gives, refuses}
+use Rattle.table.specs.Reading.{inRow}
+use Rattle.table.specs.Refusals.{numberOf}
+use Rattle.table.specs.Table.{Rows}
+use Rattle.table.specs.Image.{chainFields, rowsOf}
+use Rattle.table.specs.Parts.{ChainsTaken}
+use Rattle.table.specs.declared.Answer.{Answer}
+use Rattle.table.specs.declared.Answer.the-variants.{Accepted, Refused}
+use Rattle.table.specs.declared.Refusal.{Refusal}
+use Rattle.table.specs.declared.Table.{Table}
+use Rattle.table.proofs.Steps.{still-refused}
+use Rattle.table.proofs.Rows.{row-more, row-refused, held-more}
+
+module _ (image : List ℕ) (at : ℕ) (table : Table) where
+  -- k chains were taken; the array holds their lengths and the rows their task numbers
+  pub record ChainsPassed (k : ℕ) (lengths : List ℕ) (rows : Rows) (next : ℕ) : Type 0 where
+    pub values : List (List ℕ)
+    pub long : length values ≡ k
+    pub taken-row : inRow k (λ before. chainFields table) image at ≡ gives (record { value = values; next = next })
+    pub near : next ≤ at + 44 * k
+    pub lengths-held : lengths ≡ padded 16 0 (map (λ chain. length chain) values)
+    pub rows-held : rows ≡ rowsOf values
+
+  pub no-chain-passed : ChainsPassed 0 (padded 16 0 []) (rowsOf []) at
+  unfolding inRow
+  no-chain-passed = record {
+    values = [];
+    long = refl;
+    taken-row = refl;
+    near = omega arith;
+    lengths-held = refl;
+    rows-held = refl;
+  }
+
+  module _ {k : ℕ} {lengths : List ℕ} {rows : Rows} {next : ℕ} (passed : ChainsPassed k lengths rows next) where
+    -- one more
+    pub chain-passed : (steps : List ℕ) (size : ℕ) (row : List ℕ) → k < 16 → size ≡ length steps → size ≤ 8
+        → row ≡ padded 8 0 steps
+        → chainFields table image next ≡ gives (record { value = steps; next = next + 4 + 5 * size })
+        → ChainsPassed (k + 1) (set lengths k size) (set rows k row) (next + 4 + 5 * size)
+    unfolding rowsOf
+    chain-passed steps size row room is few holds taken = record {
+      values = passed .values ++ steps ∷ [];
+      long = simp length-append (omega arith);
+      taken-row = row-more (λ before. chainFields table) image at k _ _ (passed .taken-row) taken;
+      near = omega arith;
+      lengths-held =
+          rw is (held-more 16 0 (λ chain. length chain) (passed .values) k steps (passed .long) room
+          (passed .lengths-held));
+      rows-held =
+          rw holds
+          (held-more 16 (replicate 8 0) (λ chain. padded 8 0 chain) (passed .values) k steps (passed .long) room
+          (passed .rows-held));
+    }
+
+    -- the next chain is refused
+    pub chains-refused : (count : ℕ) (answer : Answer) (r : Refusal) (p : ℕ) → k < count → answer ≡ Refused r p
+        → chainFields table image next ≡ refuses (numberOf r) p
+        → ChainsTaken image at table count (record { answer = answer; length = lengths; next = next }) rows
+    chains-refused count answer r p more told refused = record {
+      values = passed .values;
+      said = still-refused _ r told
+          ∙ sym (row-refused (λ before. chainFields table) image at k count _ _ p more (passed .taken-row) refused);
+      near = omega (arith, passed .near);
+      lengths = passed .lengths-held;
+      held = passed .rows-held;
+    }
+
+    -- all were taken
+    pub chains-whole : (count : ℕ) → k ≡ count
+        → ChainsTaken image at table count (record { answer = Accepted; length = lengths; next = next }) rows
+    chains-whole count all = record {
+      values = passed .values;
+      said = rw (← all) (sym (passed .taken-row));
+      near = omega (arith, passed .near);
+      lengths = passed .lengths-held;
+      held = passed .rows-held;
+    }

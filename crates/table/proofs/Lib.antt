@@ -1,0 +1,21 @@
+-- Laws of the definitions and of the reader, for the functions of this crate and for the crates above.
+pub mod Accepted
+pub mod ChainRows
+pub mod ChainRules
+pub mod ChainSteps
+pub mod Checks
+pub mod FieldLaws
+pub mod FieldRules
+pub mod Filling
+pub mod Largest
+pub mod LargestImage
+pub mod MeetsRules
+pub mod Numbers
+pub mod Readers
+pub mod Refusals
+pub mod Rows
+pub mod Sound
+pub mod Steps
+pub mod Stricter
+pub mod Whole
+pub mod WholeImage

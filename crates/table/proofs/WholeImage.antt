@@ -1,0 +1,90 @@
+-- The whole image from its parts: refused by a part, refused by its hyperperiod, or read. No contract cites this file.
+-- Assumes nothing.
+use Prim.Native.Nat.{ℕ, _+_, _*_, _<_, _≤_}
+use mathlib.Core.Path.{_≡_, sym, ap, _∙_}
+use mathlib.Core.List.{List, map}
+use borrow.Author.Tests.{le-leb, lt-leb}
+use lib.ListN.{length}
+use Rattle.lists.specs.Lists.{padded}
+use Rattle.table.specs.Outcome.{gives, refuses, askedOf}
+use Rattle.table.specs.Reading.{Taken, inRow, check}
+use Rattle.table.specs.Refusals.{numberOf}
+use Rattle.table.specs.Table.{Rows, hyperperiodOf}
+use Rattle.table.specs.Image.{Whole, tableOf, rowsOf, chainFields, fill, allFields, wholeFields, readImage}
+use Rattle.table.specs.Shown.{nothing, acceptedOr, shownOf}
+use Rattle.table.specs.Parts.{Body, AllRead}
+use Rattle.table.specs.declared.Answer.{Answer}
+use Rattle.table.specs.declared.Answer.the-variants.{Accepted, Refused}
+use Rattle.table.specs.declared.Refusal.{Refusal}
+use Rattle.table.specs.declared.Table.{Table}
+use Rattle.table.specs.declared.TableRead.{TableRead}
+use Rattle.table.proofs.Steps.{still-refused}
+
+-- a table, with these lengths of chains
+abbrev pub lengthened : Table → List ℕ → Table
+lengthened table lengths = record {
+  cores = table .cores;
+  tasks = table .tasks;
+  labels = table .labels;
+  chains = table .chains;
+  core = table .core;
+  period = table .period;
+  writer = table .writer;
+  readers = table .readers;
+  length = lengths;
+}
+
+module _ (image : List ℕ) where
+  -- a refused image shows nothing of its table
+  pub whole-refused : (read : TableRead) (rows : Rows) (answer : Answer) (r : Refusal) {p : ℕ}
+      → read ≡ record { answer = answer; table = nothing .table } → answer ≡ Refused r p
+      → wholeFields image 0 ≡ refuses (numberOf r) p → AllRead image read rows
+  unfolding readImage shownOf acceptedOr
+  whole-refused read rows answer r is told refused = record {
+    said = still-refused _ r (ap (λ read. read .answer) is ∙ told) ∙ sym (rw refused);
+    shown = ap (λ read. read .table) is ∙ sym (rw refused);
+  }
+
+  -- a refused field refuses the image
+  pub field-refuses-whole : {n p : ℕ} → allFields image 0 ≡ refuses n p → wholeFields image 0 ≡ refuses n p
+  unfolding wholeFields
+  field-refuses-whole refused = rw refused
+
+  -- after head, tasks and labels come the chains and the fill
+  pub after-body : (table : Table) (body : Body image table)
+      → allFields image 0
+      ≡ askedOf (inRow (table .chains) (λ before. chainFields table) image
+      (26 + 23 * table .tasks + 37 * table .labels))
+      (λ chains. askedOf (fill image (chains .next))
+      (λ filled. gives (record {
+        value = record {
+          table = tableOf (body .head) (body .tasks) (body .labels) (chains .value);
+          rows = rowsOf (chains .value);
+        };
+        next = filled .next;
+      })))
+  unfolding allFields tableOf
+  after-body table body = rw (body .held, body .of-head, body .of-tasks, body .of-labels)
+
+  -- the table of a body, with the lengths of its chains
+  pub with-lengths : (table : Table) (body : Body image table) (chains : List (List ℕ)) (lengths : List ℕ)
+      → lengths ≡ padded 16 0 (map (λ chain. length chain) chains)
+      → tableOf (body .head) (body .tasks) (body .labels) chains
+      ≡ lengthened table lengths
+  unfolding tableOf
+  with-lengths table body chains lengths held = rw (body .held, held)
+
+  module _ (taken : Taken Whole) (all : allFields image 0 ≡ gives taken) where
+    -- H above 1,000,000
+    pub above-limit : 1000000 < hyperperiodOf (taken .value .table) → wholeFields image 0 ≡ refuses 10 0
+    unfolding wholeFields check
+    above-limit above = rw (all, lt-leb _ _ above)
+
+    -- an accepted image
+    pub whole-read : hyperperiodOf (taken .value .table) ≤ 1000000
+        → AllRead image (record { answer = Accepted; table = taken .value .table }) (taken .value .rows)
+    unfolding readImage wholeFields check shownOf acceptedOr
+    whole-read within = record {
+      said = rw (all, le-leb _ _ within);
+      shown = rw (all, le-leb _ _ within);
+    }

@@ -1,0 +1,9 @@
+-- Definitions of this crate.
+pub mod Image
+pub mod Outcome
+pub mod Parts
+pub mod Reading
+pub mod Refusals
+pub mod Rules
+pub mod Shown
+pub mod Table
