@@ -1,0 +1,1 @@
+// The age of a chain: definitions (specs/); the code follows.

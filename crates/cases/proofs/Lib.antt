@@ -1,0 +1,3 @@
+-- Laws and theorems of this crate.
+pub mod PrintedExample
+pub mod Starred

@@ -1,0 +1,62 @@
+-- The starred cases of document 01 hold of its definitions: one table, one theorem, by computation. Assumes nothing.
+use mathlib.Core.Path.{refl}
+use Rattle.lists.specs.Lists.{someBelow, eachBelow, eachOf, padded}
+use Rattle.bits.specs.Bits.{bitCount, bitAt, fieldAt}
+use Rattle.bits.specs.Packing.{bitsOf, bitsOfAll, formedBy, bytesOf, bytesFor, packed}
+use Rattle.times.specs.Releases.{release, jobEnd, firstFrom}
+use Rattle.times.specs.Hyperperiod.{gcdIn, gcd, lcm, lcmFrom, lcmOf}
+use Rattle.times.specs.Points.{publishing, reading, isPublishing, isReading, publishesAt, servesAt}
+use Rattle.table.specs.Reading.{field, inRow, check}
+use Rattle.table.specs.Table.{coreOf, periodOf, timingOf, writerOf, marks, reads, joins, hyperperiodOf}
+use Rattle.table.specs.Image.{between, headFields, taskFields, rightReaders, labelFields, tableOf, rowsOf, stepHolds}
+use Rattle.table.specs.Image.{chainTask, chainFields, fill, allFields, wholeFields, readImage}
+use Rattle.table.specs.Shown.{answerOf}
+use Rattle.copies.specs.Copies.{written, served, writesAt, readsAt, copiesAt, framesAt, framesOf}
+use Rattle.copies.specs.Listing.{copyFields, frameFields, listingFields, listingOf}
+use Rattle.ages.specs.Ages.{follow, endOf, isBasic, lengthOf, ageOf, roundOf, basicPaths, largest, least, worstAge}
+use Rattle.ages.specs.Ages.{bestAge, agesOf}
+use Rattle.questions.specs.Questions.{listing}
+use Rattle.cases.specs.Starred.{AllHold, Holds, starred}
+
+pub starred-cases-hold : AllHold starred
+unfolding AllHold Holds someBelow eachBelow eachOf padded bitCount bitAt fieldAt bitsOf bitsOfAll formedBy
+    bytesOf bytesFor packed release jobEnd firstFrom gcdIn gcd lcm lcmFrom lcmOf publishing reading
+    isPublishing isReading publishesAt servesAt field inRow check coreOf periodOf timingOf writerOf
+    marks reads joins hyperperiodOf between headFields taskFields rightReaders labelFields tableOf
+    rowsOf stepHolds chainTask chainFields fill allFields wholeFields readImage answerOf written served
+    writesAt readsAt copiesAt framesAt framesOf copyFields frameFields listingFields listingOf follow
+    endOf isBasic lengthOf ageOf roundOf basicPaths largest least worstAge bestAge agesOf listing
+starred-cases-hold = (
+  (refl, refl),
+  (
+    (refl, refl),
+    (
+      (refl, refl),
+      (
+        (refl, refl),
+        (
+          refl,
+          (
+            refl,
+            (
+              refl,
+              (
+                refl,
+                (
+                  refl,
+                  (
+                    refl,
+                    (
+                      refl,
+                      (refl, (refl, tt)),
+                    ),
+                  ),
+                ),
+              ),
+            ),
+          ),
+        ),
+      ),
+    ),
+  ),
+)

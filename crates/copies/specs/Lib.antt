@@ -1,0 +1,4 @@
+-- Definitions of this crate.
+pub mod Copies
+pub mod Listing
+pub mod Plans

@@ -1,0 +1,1 @@
+// Copies, frames and the listing of a core: definitions (specs/); the code follows.

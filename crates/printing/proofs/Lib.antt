@@ -1,0 +1,5 @@
+-- Laws and theorems of this crate.
+pub mod AcceptedRound
+pub mod Alike
+pub mod Determined
+pub mod FirstBytes

@@ -1,0 +1,36 @@
+-- `printing::hyperperiod` meets its contract. Assumes nothing.
+use mathlib.Core.Path.{sym, _∙_}
+use borrow.Author.Needs.{needs}
+use Rattle.questions.proofs.Asked.{refused-image, accepted-image}
+use Rattle.printing.specs.Rounds.{hyperperiod, roundOf}
+use Rattle.printing.proofs.AcceptedRound.{round-of-image}
+use Rattle.printing.proofs.hyperperiod.Statement.{statement}
+use Rattle.printing.proofs.hyperperiod.Tie as tie
+
+read-table-requires : tie.Need-read-table-requires
+read-table-requires c κs = search needs
+
+enum-known-answer : tie.Need-enum-known-answer
+enum-known-answer c = search needs
+
+enum-told : tie.Need-enum-told
+enum-told c = search needs
+
+round-of-requires : tie.Need-round-of-requires
+round-of-requires c κs = search needs
+
+returns : tie.Need-returns
+returns c =
+    let read = c .before .before .before .before .read-table in
+    c .round-of .ensures
+    ∙ sym (accepted-image _ _ (read .ensures) (c .before .before .enum-told .given .1) roundOf)
+    ∙ round-of-image _
+
+returns-2 : tie.Need-returns-2
+unfolding hyperperiod
+returns-2 c = sym (refused-image _ _ (c .before .before .before .read-table .ensures) (c .before .answer .given .1) _)
+
+pub hyperperiod-spec : {M : Type 1} → statement M
+hyperperiod-spec =
+    tie.close
+    (tie.spec read-table-requires enum-known-answer enum-told round-of-requires returns returns-2)

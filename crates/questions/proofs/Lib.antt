@@ -1,0 +1,5 @@
+-- Laws and theorems of this crate.
+pub mod Asked
+pub mod Determined
+pub mod Joined
+pub mod PointsOf

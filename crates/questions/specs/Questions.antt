@@ -1,0 +1,65 @@
+-- The three questions, asked of the table image itself. Document 01: "Each question is asked of the table image
+-- itself; a refused image gets the same refusal whichever question is asked." Of Numbers that say no the rows 11 to
+-- 13, each at place 0 and in the order 12, 13, 11. Any image and any numbers may be asked. Assumes nothing.
+use Prim.Native.Nat.{ℕ}
+use mathlib.Core.Bool.{Bool, cond, _&&_}
+use mathlib.Core.List.{List, _++_}
+use lib.Dec.{leb, ltb}
+use lib.ListN.{length, drop}
+use Rattle.times.specs.Points.{publishing, reading}
+use Rattle.table.specs.Outcome.{Outcome, gives, refuses, askedOf}
+use Rattle.table.specs.Table.{timingOf, joins}
+use Rattle.table.specs.Image.{readImage}
+use Rattle.table.specs.declared.Table.{Table}
+use Rattle.copies.specs.Listing.{listingOf}
+use Rattle.ages.specs.Ages.{Ages, agesOfChain}
+
+-- a condition that has to hold before anything else is said
+abbrev pub unlessRefused : {A : Type 0} → Bool → ℕ → Outcome A → Outcome A
+unlessRefused right number rest = cond right rest (refuses number 0)
+
+-- the points of a pair: P(n) and Q(n)
+pub record Points : Type 0 where
+  pub publishing : ℕ
+  pub reading : ℕ
+
+-- 12: "asked .. task not in the table, or n above 1,000,000"; 13: "no label goes from the asked writer to the asked
+-- reader"
+unfoldable pub pointsOf : (table : Table) (writer reader n : ℕ) → Outcome Points
+pointsOf table writer reader n =
+    unlessRefused (ltb writer (table .tasks) && ltb reader (table .tasks) && leb n 1000000) 12
+    (unlessRefused (joins table writer reader) 13
+    (gives (record {
+      publishing = publishing (timingOf table writer) (timingOf table reader) n;
+      reading = reading (timingOf table writer) (timingOf table reader) n;
+    })))
+
+unfoldable pub points : (image : List ℕ) (writer reader n : ℕ) → Outcome Points
+points image writer reader n = askedOf (readImage image) (λ whole. pointsOf (whole .table) writer reader n)
+
+-- 12: "asked core .. not in the table"; 11: "lent buffer shorter than the listing"; else the listing's bytes
+unfoldable pub listing : (image : List ℕ) (core room : ℕ) → Outcome (List ℕ)
+listing image core room =
+    askedOf (readImage image)
+    (λ whole.
+    unlessRefused (ltb core (whole .table .cores)) 12
+    (unlessRefused (leb (length (listingOf (whole .table) core)) room) 11
+    (gives (listingOf (whole .table) core))))
+
+-- "On success a listing fills the first bytes of the buffer, .. and the bytes after them keep their values"; after a
+-- refusal "each lent buffer then holds what it held"
+unfoldable pub lentAfter : Outcome (List ℕ) → List ℕ → List ℕ
+lentAfter (gives bytes) buffer = bytes ++ drop (length bytes) buffer
+lentAfter (refuses number place) buffer = buffer
+
+-- "the answer says how many" bytes it fills
+unfoldable pub bytesListed : Outcome (List ℕ) → Outcome ℕ
+bytesListed outcome = askedOf outcome (λ bytes. gives (length bytes))
+
+-- 12: "asked .. chain .. not in the table"; else the answer for the chain
+unfoldable pub ages : (image : List ℕ) (chain : ℕ) → Outcome Ages
+ages image chain =
+    askedOf (readImage image)
+    (λ whole.
+    unlessRefused (ltb chain (whole .table .chains)) 12
+    (gives (agesOfChain (whole .table) (whole .rows) chain)))

@@ -1,0 +1,52 @@
+// The three questions asked of a table image, and what answers them (document 01, What the generator covers: "Each
+// question is asked of the table image itself"). What each answer says: specs/.
+ghost use mathlib.Core.Path.{_≡_};
+ghost use Rattle.questions.specs.Answers.{saidOfPoints};
+ghost use Rattle.questions.specs.Questions.{points};
+
+mod pairs;
+
+use pairs::points_of;
+use table::Answer;
+use table::Refusal;
+
+// The points of a pair of tasks.
+pub enum PointsAnswer {
+    Points { publishing: u64, reading: u64 },
+    Refused { refusal: Refusal, place: usize },
+}
+
+// The copy listing of a core: how many bytes of the lent buffer it fills.
+pub enum ListingAnswer {
+    Listed { bytes: usize },
+    Refused { refusal: Refusal, place: usize },
+}
+
+// The ages of a chain.
+pub enum AgesAnswer {
+    Ages {
+        paths: u32,
+        longest: u32,
+        worst: u32,
+        best: u32,
+        jitter: u32,
+    },
+    Refused {
+        refusal: Refusal,
+        place: usize,
+    },
+}
+
+// The points P(n) and Q(n) of a writer and a reader, asked of any bytes and any numbers. The image's own refusal is
+// handed on.
+pub fn points(image: &[u8], writer: u64, reader: u64, n: u64) -> PointsAnswer
+    ensures { λ r. ⌜ saidOfPoints r ≡ points (now (image .entry)) writer reader n ⌝ }
+{
+    let read = table::read_table(image);
+    let answer = read.answer;
+    let Answer::Refused { refusal, place } = answer else {
+        let table = read.table;
+        return points_of(table, writer, reader, n);
+    };
+    PointsAnswer::Refused { refusal, place }
+}

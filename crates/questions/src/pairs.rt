@@ -1,0 +1,89 @@
+// The points of a pair of tasks, asked of a table: first 12, then 13 (document 01, Numbers that say no), then P(n) and
+// Q(n).
+ghost use mathlib.Core.Path.{_≡_};
+ghost use mathlib.Core.Bool.{_&&_};
+ghost use Prim.Native.Nat.{min};
+ghost use lib.Dec.{leb, ltb};
+ghost use lib.ListN.{getD};
+ghost use Rattle.lists.specs.Lists.{someBelow};
+ghost use Rattle.questions.specs.Answers.{saidOfPoints};
+ghost use Rattle.questions.specs.Questions.{pointsOf};
+ghost use Rattle.questions.specs.Parts.{goesFrom};
+use crate::PointsAnswer;
+use table::Refusal;
+use table::Table;
+
+// A count of labels, of which an array of 64 holds no more than 64.
+fn counted(labels: usize) -> usize
+    ensures { λ r. ⌜ r ≡ min labels 64 ⌝ }
+{
+    if labels < 64 { labels } else { 64 }
+}
+
+// Some of the first `labels` labels goes from task w to task r. Past the arrays no label has a reader.
+fn joined(writer: [u32; 64], readers: [u32; 64], labels: usize, w: u64, r: u64) -> bool
+    ensures { λ b. ⌜ b ≡ someBelow labels (goesFrom writer readers w r) ⌝ }
+{
+    let count = counted(labels);
+    let mut l: usize = 0;
+    while l < count {
+        if table::goes(writer[l], readers[l], w, r) {
+            return true;
+        }
+        l += 1;
+    }
+    false
+}
+
+// The period of task i; past the array there is none, and it is 0.
+fn period_of(period: [u32; 32], i: u64) -> u32
+    ensures { λ r. ⌜ r ≡ getD period i 0 ⌝ }
+{
+    if i < 32 {
+        return period[i as usize];
+    }
+    0
+}
+
+// The asked tasks are in the table, and n is at most 1,000,000.
+fn askable(tasks: usize, writer: u64, reader: u64, n: u64) -> bool
+    ensures { λ b. ⌜ b ≡ (ltb writer tasks && ltb reader tasks && leb n 1000000) ⌝ }
+{
+    if tasks as u64 <= writer {
+        return false;
+    }
+    if tasks as u64 <= reader {
+        return false;
+    }
+    n <= 1_000_000
+}
+
+// The points P(n) and Q(n) of tasks `writer` and `reader` of a table: 12 comes before 13.
+pub(crate) fn points_of(table: Table, writer: u64, reader: u64, n: u64) -> PointsAnswer
+    ensures { λ r. ⌜ saidOfPoints r ≡ pointsOf table writer reader n ⌝ }
+{
+    let writers = table.writer;
+    let readers = table.readers;
+    let period = table.period;
+    let known = askable(table.tasks, writer, reader, n);
+    let linked = joined(writers, readers, table.labels, writer, reader);
+    if !known {
+        return PointsAnswer::Refused {
+            refusal: Refusal::Asked,
+            place: 0,
+        };
+    }
+    if !linked {
+        return PointsAnswer::Refused {
+            refusal: Refusal::Unjoined,
+            place: 0,
+        };
+    }
+    let of_writer = period_of(period, writer);
+    let of_reader = period_of(period, reader);
+    let number = n as u32;
+    PointsAnswer::Points {
+        publishing: times::points::publishing(of_writer, of_reader, number),
+        reading: times::points::reading(of_writer, of_reader, number),
+    }
+}
