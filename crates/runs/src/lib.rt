@@ -1,0 +1,1 @@
+// What jobs read under a set of copies: definitions (specs/) and theorems (proofs/), no code.

@@ -1,0 +1,1 @@
+// What is proved, under the user's three demands: proofs/Theorems.antt. No code.
