@@ -120,9 +120,10 @@ pub listing-once : (image : List ℕ) (core : ℕ) (buffer : List ℕ) (a b : Li
     → (a ≡ b) × (after-a ≡ after-b)
 listing-once = listing-determined
 
--- An accepted table meets the rules of document 01 (crates/table/specs/Rules.antt). That an image whose fields meet them,
--- each in its turn, is accepted is what the definition `readImage` says.
-pub accepted-table-meets-the-rules : (image : List ℕ) (whole : Whole) → readImage image ≡ gives whole → MeetsRules whole
+-- An accepted table meets the rules of document 01 (crates/table/specs/Rules.antt). That an image whose fields meet
+-- them, each in its turn, is accepted is what the definition `readImage` says.
+pub accepted-table-meets-the-rules
+    : (image : List ℕ) (whole : Whole) → readImage image ≡ gives whole → MeetsRules whole
 accepted-table-meets-the-rules = accepted-meets-rules
 
 -- DEMAND 3. Run an accepted table with only the listed copies, or copying every label at every release: every job

@@ -1,0 +1,40 @@
+-- `capi::pairs::liskobran_points` meets its contract. Assumes nothing.
+use borrow.Author.Needs.{needs}
+use Rattle.capi.specs.Said.{pointsSaid}
+use Rattle.capi.proofs.pairs.liskobran_points.Statement.{statement}
+use Rattle.capi.proofs.pairs.liskobran_points.Tie as tie
+
+points-requires : tie.Need-points-requires
+points-requires c κs = search needs
+
+enum-known-answer : tie.Need-enum-known-answer
+enum-known-answer c = search needs
+
+enum-known-answer-2 : tie.Need-enum-known-answer-2
+enum-known-answer-2 c = search needs
+
+number-of-requires : tie.Need-number-of-requires
+number-of-requires c κs = search needs
+
+returns : tie.Need-returns
+unfolding pointsSaid
+returns c = rw (← c .before .before .before .points .ensures, c .before .answer .given .1)
+
+returns-2 : tie.Need-returns-2
+unfolding pointsSaid
+returns-2 c = rw (
+  ← c .before .before .before .before .points .ensures,
+  c .before .before .answer2 .given .1,
+  c .number-of .ensures,
+)
+
+pub liskobran-points-spec : {M : Type 1} → statement M
+liskobran-points-spec =
+    tie.close
+    (tie.spec
+    points-requires
+    enum-known-answer
+    enum-known-answer-2
+    number-of-requires
+    returns
+    returns-2)

@@ -1,0 +1,18 @@
+-- What the C interface says, from what is said to a question: number 0 and the answer's values, or the number and the
+-- place of document 01, Numbers that say no, and 0 for each value, since a refusal "carries no other value". Assumes
+-- nothing.
+use Rattle.table.specs.Outcome.{Outcome, gives, refuses}
+use Rattle.questions.specs.Questions.{Points}
+use Rattle.capi.specs.declared.LiskobranAnswer.{LiskobranAnswer}
+use Rattle.capi.specs.declared.LiskobranPoints.{LiskobranPoints}
+
+-- whether an image is accepted
+unfoldable pub readSaid : Outcome (Unit {0}) → LiskobranAnswer
+readSaid (gives accepted) = record { number = 0; place = 0 }
+readSaid (refuses number place) = record { number = number; place = place }
+
+-- the points of a pair
+unfoldable pub pointsSaid : Outcome Points → LiskobranPoints
+pointsSaid (gives points) =
+    record { number = 0; place = 0; publishing = points .publishing; reading = points .reading }
+pointsSaid (refuses number place) = record { number = number; place = place; publishing = 0; reading = 0 }

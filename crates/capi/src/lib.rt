@@ -1,0 +1,21 @@
+// The C interface: each question about an image as one function of C's, its answer a struct of numbers. The number is 0
+// where the question is answered, and else that of document 01, Numbers that say no. What each answer says:
+// specs/Said.antt. No function requires anything; include/liskobran.h declares them for C.
+mod images;
+mod pairs;
+
+// Of an image: 0 and 0 where it is accepted, else the refusal's number and place.
+#[repr(C)]
+pub struct LiskobranAnswer {
+    pub number: u32,
+    pub place: u64,
+}
+
+// The points of a pair: P(n) and Q(n).
+#[repr(C)]
+pub struct LiskobranPoints {
+    pub number: u32,
+    pub place: u64,
+    pub publishing: u64,
+    pub reading: u64,
+}

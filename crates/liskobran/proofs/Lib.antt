@@ -1,0 +1,2 @@
+-- Laws and theorems of this crate.
+pub mod Digits

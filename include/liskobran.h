@@ -1,0 +1,68 @@
+/*
+ * Liskobran from C: questions about a table image, answered by the functions of libcapi.a (`rt staticlib capi`).
+ *
+ * Every function may be asked about any bytes; none of them keeps a pointer, writes to the image, allocates or fails
+ * in another way than by the numbers below. An image is given by the address of its first byte and its length in bytes;
+ * the address is not a null pointer, not even of an image of length 0.
+ *
+ * Every answer begins with a number. It is 0 where the question is answered. Else it is one of document 01's numbers
+ * that say no, `place` is the bit of the image at which the refusal arose (bit 0 is the top bit of the first byte), and
+ * every other field of the answer is 0. Where the number is 0, the place is 0.
+ *
+ *   No.  When                                                               Place
+ *    1   the image ends inside or before the next field                     start of that field
+ *    2   version is not 1                                                   0
+ *    3   a count in the head outside its range                              start of the field
+ *    4   a task's core is not below the core count                          start of the field
+ *    5   period 0 or above 1,000,000                                        start of the field
+ *    6   writer is no task of the table                                     start of the field
+ *    7   a reader is no task of the table, or is the writer                 start of the field
+ *    8   chain length outside 2 to 8; chain task not in the table;          start of the field; for a step,
+ *        no label for the step                                              of its second task
+ *    9   a fill bit is 1, or bytes follow                                   first such bit
+ *   10   hyperperiod above 1,000,000                                        0
+ *   11   lent buffer shorter than the listing                               0
+ *   12   asked core, chain or task not in the table, or n above 1,000,000   0
+ *   13   no label goes from the asked writer to the asked reader            0
+ *
+ * The first condition to hold decides: 1 to 8 by image order, then 9, then 10, then 12, 13, 11.
+ */
+#ifndef LISKOBRAN_H
+#define LISKOBRAN_H
+
+#include <stddef.h>
+#include <stdint.h>
+
+#ifdef __cplusplus
+extern "C" {
+#endif
+
+/* Of an image: accepted (number 0), or refused. */
+typedef struct LiskobranAnswer {
+    uint32_t number;
+    uint64_t place;
+} LiskobranAnswer;
+
+/* Is the image accepted, or with which number (1 to 10) and at which place is it refused? */
+LiskobranAnswer liskobran_read(const uint8_t *image, size_t length);
+
+/* The points of a pair of tasks: P(n) and Q(n), in ticks (number 0), or refused. */
+typedef struct LiskobranPoints {
+    uint32_t number;
+    uint64_t place;
+    uint64_t publishing;
+    uint64_t reading;
+} LiskobranPoints;
+
+/*
+ * The publishing point P(n) and the reading point Q(n) of the tasks `writer` and `reader` of the image's table. Refused
+ * with the image's own number and place; with 12 where a task is not in the table or n is above 1,000,000; with 13 where
+ * no label goes from the writer to the reader.
+ */
+LiskobranPoints liskobran_points(const uint8_t *image, size_t length, uint64_t writer, uint64_t reader, uint64_t n);
+
+#ifdef __cplusplus
+}
+#endif
+
+#endif

@@ -1,0 +1,71 @@
+//! Valid tables that stand for the limits of document 01, "Table image", and its examples.
+
+use std::ops::ControlFlow;
+
+use independent::make::Description;
+use independent::random::Random;
+use independent::tables::{table, Size};
+
+use crate::kind::{Kind, Visit};
+use crate::question::Question;
+
+/// The tables to which every single change is made.
+pub fn examples(random: &mut Random) -> Vec<Description> {
+    let mut tables = vec![
+        // The image of "The printing program".
+        Description {
+            cores: 2,
+            tasks: vec![(0, 2), (1, 5)],
+            labels: vec![(0, vec![1])],
+            chains: vec![vec![0, 1]],
+        },
+        // The smallest image, and the largest period.
+        Description::of_periods(&[1]),
+        Description::of_periods(&[1_000_000]),
+        // 72 bits, nine bytes: no fill.
+        Description::of_periods(&[1, 1]),
+        Description::of_periods(&[999, 1001]),
+        Description::of_chain(&[3, 7, 3]),
+        Description::of_chain(&[5, 10, 20]),
+        Description::of_chain(&[16, 13, 11, 9, 7, 5, 3, 2]),
+        // 64 labels without a reader.
+        Description { labels: vec![(0, vec![]); 64], ..Description::of_periods(&[7]) },
+        // A task that stands in a chain more than once, and 16 chains.
+        Description {
+            chains: vec![vec![0, 1, 0, 1, 0, 1, 0, 1]; 16],
+            labels: vec![(0, vec![1]), (1, vec![0])],
+            ..Description::of_periods(&[1, 1_000_000])
+        },
+    ];
+    // The largest image, 480 bytes.
+    tables.push(table(random, &Size::largest(1_000)));
+    tables.push(table(random, &Size::largest(1_000_000)));
+    tables
+}
+
+/// The largest table with its chains shortened task by task, down to two tasks each.
+pub fn shorter_chains(random: &mut Random, visit: &mut Visit) -> ControlFlow<()> {
+    let mut table = table(random, &Size::largest(1_000));
+    for chain in 0..table.chains.len() {
+        while table.chains[chain].len() > 2 {
+            visit(Kind::Valid, &table.image(), Question::Read)?;
+            table.chains[chain].pop();
+        }
+    }
+    ControlFlow::Continue(())
+}
+
+/// A valid table for every number of tasks and of labels, with chains where a label has a reader.
+pub fn every_size(random: &mut Random, visit: &mut Visit) -> ControlFlow<()> {
+    for tasks in 1..=32 {
+        for labels in 0..=64 {
+            for chains in 0..=16 {
+                let cores = random.between(1, 8);
+                let full = random.below(2) == 0 && tasks > 1;
+                let size = Size { cores, tasks, labels, chains, hyperperiod: 360, full };
+                visit(Kind::Valid, &table(random, &size).image(), Question::Read)?;
+            }
+        }
+    }
+    ControlFlow::Continue(())
+}

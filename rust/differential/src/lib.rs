@@ -1,0 +1,13 @@
+//! The proved code and the independent program, asked about the same images. Seeded: the same
+//! seed and the same count give the same images.
+
+#![forbid(unsafe_code)]
+
+pub mod damage;
+pub mod examples;
+pub mod kind;
+pub mod question;
+pub mod rounds;
+pub mod run;
+pub mod said;
+pub mod tally;

@@ -1,0 +1,33 @@
+//! A run: every change and every pair of every example, a table of every size, then random rounds
+//! until enough images were asked about.
+
+use std::cell::Cell;
+use std::ops::ControlFlow;
+
+use independent::random::Random;
+
+use crate::damage::every_change;
+use crate::examples::{every_size, examples, shorter_chains};
+use crate::kind::{Kind, Visit};
+use crate::question::{every_pair, Question};
+use crate::rounds::round;
+
+/// Visits at least so many images, unless the visitor breaks.
+pub fn run(seed: u64, least: u64, visit: &mut Visit) -> ControlFlow<()> {
+    let visited = Cell::new(0);
+    let mut counted = |kind: Kind, image: &[u8], question: Question| {
+        visited.set(visited.get() + u64::from(question == Question::Read));
+        visit(kind, image, question)
+    };
+    let mut random = Random::new(seed);
+    for example in examples(&mut random) {
+        every_change(&example, &mut counted)?;
+        every_pair(&example, &mut counted)?;
+    }
+    every_size(&mut random, &mut counted)?;
+    shorter_chains(&mut random, &mut counted)?;
+    while visited.get() < least {
+        round(&mut random, &mut counted)?;
+    }
+    ControlFlow::Continue(())
+}

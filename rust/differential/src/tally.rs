@@ -1,0 +1,121 @@
+//! What came out of a run: how many images of each kind, how often each number was said to each
+//! question, and every difference.
+
+use std::collections::BTreeSet;
+use std::fmt::Write;
+
+use crate::kind::Kind;
+use crate::question::Question;
+use crate::said::Said;
+
+/// A question to which the two say different things.
+#[derive(Debug, Clone)]
+pub struct Difference {
+    pub kind: Kind,
+    pub image: Vec<u8>,
+    pub question: Question,
+    pub asked: Said,
+    pub expected: Said,
+}
+
+#[derive(Debug, Clone, Default)]
+pub struct Tally {
+    /// How many images of each kind were asked whether they are accepted.
+    kinds: [u64; Kind::ALL.len()],
+    /// How often each number was expected, by question; 0 is answered.
+    numbers: [[u64; 14]; Question::WORDS.len()],
+    /// The lengths of the accepted images.
+    lengths: BTreeSet<usize>,
+    pub differing: u64,
+    /// The first few.
+    pub differences: Vec<Difference>,
+}
+
+const SHOWN: usize = 5;
+
+/// A valid image has 7 to 480 bytes, and any number of them but 8, 10 and 13.
+const LENGTHS: usize = 471;
+
+/// The largest number that an image alone can give, and those that points can give beyond.
+const OF_IMAGES: usize = 10;
+const OF_POINTS: [usize; 2] = [12, 13];
+
+impl Tally {
+    pub fn images(&self) -> u64 {
+        self.kinds.iter().sum()
+    }
+
+    /// Compares what is said to a question with what is expected.
+    pub fn take(
+        &mut self,
+        kind: Kind,
+        image: &[u8],
+        question: Question,
+        asked: Said,
+        expected: Said,
+    ) {
+        self.numbers[question.number()][expected.number as usize] += 1;
+        if question == Question::Read {
+            self.kinds[kind as usize] += 1;
+            if expected.number == 0 {
+                self.lengths.insert(image.len());
+            }
+        }
+        if asked != expected {
+            self.differing += 1;
+            if self.differences.len() < SHOWN {
+                let image = image.to_vec();
+                self.differences.push(Difference { kind, image, question, asked, expected });
+            }
+        }
+    }
+
+    /// What should have occurred and did not.
+    pub fn missing(&self) -> Vec<String> {
+        let mut missing = Vec::new();
+        for kind in Kind::ALL {
+            if self.kinds[kind as usize] == 0 {
+                missing.push(kind.words().to_string());
+            }
+        }
+        let [read, points] = &self.numbers;
+        let of_read = (0..=OF_IMAGES).filter(|&number| read[number] == 0);
+        missing.extend(of_read.map(|number| format!("read: number {number}")));
+        let of_points = (0..=OF_IMAGES).chain(OF_POINTS).filter(|&number| points[number] == 0);
+        missing.extend(of_points.map(|number| format!("points: number {number}")));
+        if self.lengths.len() != LENGTHS || self.lengths.last() != Some(&480) {
+            missing.push("of some length that a valid image can have".to_string());
+        }
+        missing
+    }
+
+    /// All is well: everything occurred and nothing differs.
+    pub fn passed(&self) -> bool {
+        self.differing == 0 && self.missing().is_empty()
+    }
+}
+
+/// The lines that the program prints.
+pub fn report(tally: &Tally) -> Result<String, std::fmt::Error> {
+    let mut text = String::new();
+    for kind in Kind::ALL {
+        writeln!(text, "{:>10} {}", tally.kinds[kind as usize], kind.words())?;
+    }
+    writeln!(text, "{:>10} {:>10}", Question::WORDS[0], Question::WORDS[1])?;
+    for (number, (read, points)) in tally.numbers[0].iter().zip(&tally.numbers[1]).enumerate() {
+        let words = if number == 0 { "answered".into() } else { format!("refused {number}") };
+        writeln!(text, "{read:>10} {points:>10} {words}")?;
+    }
+    writeln!(text, "{:>10} different lengths of accepted images", tally.lengths.len())?;
+    for what in tally.missing() {
+        writeln!(text, "did not occur: {what}")?;
+    }
+    for Difference { kind, image, question, asked, expected } in &tally.differences {
+        let hex: Vec<String> = image.iter().map(|byte| format!("{byte:02x}")).collect();
+        writeln!(text, "{}, {} bytes: {}", kind.words(), image.len(), hex.join(" "))?;
+        writeln!(text, "    asked {question:?}: said {asked:?}, expected {expected:?}")?;
+    }
+    writeln!(text, "{:>10} images in all", tally.images())?;
+    writeln!(text, "{:>10} differences", tally.differing)?;
+    Ok(text)
+}
