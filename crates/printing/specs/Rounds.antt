@@ -21,5 +21,5 @@ unfoldable pub hyperperiod : List ℕ → Outcome ℕ
 hyperperiod image = askedOf (readImage image) (λ whole. gives (hyperperiodOf (whole .table)))
 
 -- the same of a table: 10 where H is above 1,000,000, as it is in no table of an accepted image
-unfoldable pub roundOf : Table → Outcome ℕ
-roundOf table = cond (leb (hyperperiodOf table) 1000000) (gives (hyperperiodOf table)) (refuses 10 0)
+unfoldable pub hyperperiodWithin : Table → Outcome ℕ
+hyperperiodWithin table = cond (leb (hyperperiodOf table) 1000000) (gives (hyperperiodOf table)) (refuses 10 0)

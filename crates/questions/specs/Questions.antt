@@ -34,6 +34,7 @@ pointsOf table writer reader n =
       reading = reading (timingOf table writer) (timingOf table reader) n;
     })))
 
+-- the points of a pair, asked of the image: its own refusal first
 unfoldable pub points : (image : List ℕ) (writer reader n : ℕ) → Outcome Points
 points image writer reader n = askedOf (readImage image) (λ whole. pointsOf (whole .table) writer reader n)
 

@@ -2,7 +2,7 @@
 use mathlib.Core.Path.{sym, _∙_}
 use borrow.Author.Needs.{needs}
 use Rattle.questions.proofs.Asked.{refused-image, accepted-image}
-use Rattle.printing.specs.Rounds.{hyperperiod, roundOf}
+use Rattle.printing.specs.Rounds.{hyperperiod, hyperperiodWithin}
 use Rattle.printing.proofs.AcceptedRound.{round-of-image}
 use Rattle.printing.proofs.hyperperiod.Statement.{statement}
 use Rattle.printing.proofs.hyperperiod.Tie as tie
@@ -23,7 +23,7 @@ returns : tie.Need-returns
 returns c =
     let read = c .before .before .before .before .read-table in
     c .round-of .ensures
-    ∙ sym (accepted-image _ _ (read .ensures) (c .before .before .enum-told .given .1) roundOf)
+    ∙ sym (accepted-image _ _ (read .ensures) (c .before .before .enum-told .given .1) hyperperiodWithin)
     ∙ round-of-image _
 
 returns-2 : tie.Need-returns-2
