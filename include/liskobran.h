@@ -56,8 +56,8 @@ typedef struct LiskobranPoints {
 
 /*
  * The publishing point P(n) and the reading point Q(n) of the tasks `writer` and `reader` of the image's table. Refused
- * with the image's own number and place; with 12 where a task is not in the table or n is above 1,000,000; with 13 where
- * no label goes from the writer to the reader.
+ * with the image's own number and place; with 12 where a task is not in the table or n is above 1,000,000; with 13
+ * where no label goes from the writer to the reader.
  */
 LiskobranPoints liskobran_points(const uint8_t *image, size_t length, uint64_t writer, uint64_t reader, uint64_t n);
 

@@ -74,6 +74,11 @@ pub fn table(random: &mut Random, size: &Size) -> Description {
     Description { cores: size.cores, tasks, labels, chains }
 }
 
+/// The table of the file examples/largest.image: 480 bytes, and small enough listings to be printed.
+pub fn largest_example() -> Description {
+    table(&mut Random::new(1), &Size::largest(360))
+}
+
 fn base(random: &mut Random, most: u64) -> u64 {
     let rich: Vec<u64> = RICH.into_iter().filter(|&number| number <= most).collect();
     if rich.is_empty() || random.below(3) == 0 {

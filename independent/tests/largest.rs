@@ -3,8 +3,8 @@
 
 use independent::make::Description;
 use independent::random::Random;
-use independent::tables::{table, Size};
-use independent::{ages, listing_length, points, print, Refusal};
+use independent::tables::{largest_example, table, Size};
+use independent::{ages, listing_length, points, print, read, Refusal};
 
 /// Every task reads every label that it does not write; two labels per task.
 fn everyone_reads(periods: &[u64]) -> Description {
@@ -97,17 +97,39 @@ fn farthest_points() {
     assert_eq!(points(&image, 0, 1, 1_000_000), Ok((1_000_999_998, 1_001_000_000)));
 }
 
+/// Which of the two the printing program has to say follows from the longest listing of a core.
 #[test]
 fn random_largest_tables() {
     let mut random = Random::new(1);
+    let mut too_long = 0;
     for _ in 0..5 {
         let image = table(&mut random, &Size::largest(1_000_000)).image();
         assert_eq!(image.len(), 480);
+        let longest = (0..8).map(|core| listing_length(&image, core).unwrap()).max();
         let text = doing("print", || print(&image));
-        assert!(text == "refused 11 0\n" || text.starts_with("hyperperiod "));
+        if longest > Some(65_536) {
+            too_long += 1;
+            assert_eq!(text, "refused 11 0\n");
+        } else {
+            let lines = |word| text.lines().filter(|line| line.starts_with(word)).count();
+            assert_eq!((lines("hyperperiod "), lines("core "), lines("chain ")), (1, 8, 16));
+        }
         for chain in 0..16 {
             assert!(ages(&image, chain).is_ok());
         }
         assert_eq!(ages(&image, 16), Err(Refusal::new(12, 0)));
+    }
+    assert!(0 < too_long && too_long < 5, "both have to occur");
+}
+
+#[test]
+fn the_largest_example() {
+    let held = include_bytes!("../../examples/largest.image");
+    assert_eq!(held.len(), 480);
+    assert_eq!(held[..], largest_example().image());
+    assert!(print(held).starts_with("hyperperiod 210\ncore 0\n"));
+    for longer in [481, 1_024, 1_025] {
+        let image = [&held[..], &vec![0; longer - 480]].concat();
+        assert_eq!(read(&image), Err(Refusal::new(9, 3_840)));
     }
 }

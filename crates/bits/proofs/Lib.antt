@@ -1,6 +1,9 @@
 -- Laws and theorems of this crate.
 pub mod Bytes
+pub mod Determined
+pub mod FieldLaws
 pub mod Fields
+pub mod Held
 pub mod ReadBack
 pub mod Reached
 pub mod Written

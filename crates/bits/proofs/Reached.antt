@@ -6,9 +6,9 @@ use mathlib.Core.List.{List}
 use native.Mathlib.Omega.{arith}
 use borrow.Author.Tests.{le-leb, lt-leb}
 use lib.ListN.{length}
+use Rattle.outcomes.specs.Outcome.{gives, refuses}
 use Rattle.bits.specs.Bits.{bitCount, fieldAt}
 use Rattle.bits.specs.Found.{foundAt}
-use Rattle.bits.specs.declared.Found.the-variants.{Value, Ends}
 use Rattle.bits.proofs.Fields.{field-cut}
 
 -- how many bytes a field reaches into
@@ -17,13 +17,13 @@ reached at w = (at % 8 + w + 7) / 8
 
 module _ (bytes : List ℕ) (at w : ℕ) where
   -- the bytes end inside or before the field
-  pub found-ends : length bytes < at / 8 + reached at w → Ends ≡ foundAt bytes at w
+  pub found-ends : length bytes < at / 8 + reached at w → refuses 1 at ≡ foundAt bytes at w
   unfolding foundAt bitCount
   found-ends short =
       let past : 8 * length bytes < at + w = omega arith in
       rw (lt-leb _ _ past)
 
-  pub found-value : at / 8 + reached at w ≤ length bytes → Value (fieldAt bytes at w) ≡ foundAt bytes at w
+  pub found-value : at / 8 + reached at w ≤ length bytes → gives (fieldAt bytes at w) ≡ foundAt bytes at w
   unfolding foundAt bitCount
   found-value long =
       let within : at + w ≤ 8 * length bytes = omega arith in

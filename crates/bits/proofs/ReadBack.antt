@@ -1,17 +1,18 @@
--- Packed bytes read back: each byte, each bit and each field of a packed list of bits, and the value of a field packed
--- among others. No contract cites this file. Assumes nothing.
-use Prim.Native.Nat.{ℕ, zero, suc, _+_, _-_, _*_, _/_, _%_, _^_, _<_, _≤_}
-use mathlib.Core.Path.{_≡_, refl, sym, ap, _∙_}
-use mathlib.Core.List.{List, [], _∷_, _++_, append-assoc}
+-- Packed bytes read back: each byte and each bit of a packed list of bits, and the bits of fields that are packed one
+-- after the other. No contract cites this file. Assumes nothing.
+use Prim.Native.Nat.{ℕ, zero, suc, _+_, _-_, _*_, _/_, _%_, _<_}
+use mathlib.Core.Path.{_≡_, refl, _∙_}
+use mathlib.Core.List.{List, [], _∷_, _++_}
 use native.Mathlib.Nat.{mod-lt}
 use native.Mathlib.Omega.{arith}
 use lib.Dec.{lit<}
-use lib.ListN.{length, getD, drop, length-append}
-use lib.Seq.{drop-drop, getD-drop, drop-append-seam}
+use lib.ListN.{getD, drop}
+use lib.Seq.{drop-drop, getD-drop}
 use Rattle.lists.specs.Lists.{eachOf}
-use Rattle.bits.specs.Bits.{bitAt, fieldAt}
-use Rattle.bits.specs.Packing.{Field, bitsOf, bitsOfAll, formedBy, bytesOf, bytesFor, packed}
-use Rattle.bits.proofs.Written.{BitsTo, formed-bit, read-of-written, written-length}
+use Rattle.lists.proofs.Each.{each-of-append}
+use Rattle.bits.specs.Bits.{bitAt}
+use Rattle.bits.specs.Packing.{Field, bitsOf, bitsOfAll, formedBy, bytesOf}
+use Rattle.bits.proofs.Written.{BitsTo, formed-bit}
 
 -- byte i is formed by the eight bits from bit 8 * i on
 pub byte-formed : (n : ℕ) (bits : List ℕ) (i : ℕ) → i < n → getD (bytesOf n bits) i 0 ≡ formedBy 8 (drop (8 * i) bits)
@@ -33,14 +34,6 @@ module _ (n : ℕ) (bits : List ℕ) (each : BitsTo (8 * n) bits) where
       let eight : BitsTo 8 (drop (8 * (k / 8)) bits) =
       λ j below. rw getD-drop (each (8 * (k / 8) + j) (omega arith)) in
       rw (byte, lower, formed-bit 8 (drop (8 * (k / 8)) bits) (k % 8) eight (mod-lt k (lit< tt)), getD-drop, place)
-
-  -- a field of the bytes is formed by its bits of the list
-  pub field-read-back : (at w : ℕ) → at + w ≤ 8 * n → fieldAt (bytesOf n bits) at w ≡ formedBy w (drop at bits)
-  unfolding fieldAt formedBy
-  field-read-back at zero h = refl
-  field-read-back at (suc w) h =
-      let before = field-read-back at w (omega arith) in
-      rw (before, bit-read-back (at + w) (omega arith), getD-drop)
 
 -- every bit of fields packed without gaps is below 2
 append-below : (s t : List ℕ) → ((j : ℕ) → getD s j 0 < 2) → ((j : ℕ) → getD t j 0 < 2) → (j : ℕ)
@@ -64,23 +57,5 @@ all-written-below (f ∷ fields) j =
 
 -- the bits of some fields and then of others
 pub all-written-append : (before after : List Field) → bitsOfAll (before ++ after) ≡ bitsOfAll before ++ bitsOfAll after
-unfolding bitsOfAll eachOf
-all-written-append [] after = refl
-all-written-append (f ∷ before) after =
-    ap (λ l. bitsOf (f .width) (f .value) ++ l) (all-written-append before after)
-    ∙ sym (append-assoc (bitsOf (f .width) (f .value)) (bitsOfAll before) (bitsOfAll after))
-
--- a field packed between others is read back at the end of those before it
-pub packed-read-back : (before after : List Field) (f : Field) → f .value < 2 ^ f .width
-    → fieldAt (packed (before ++ f ∷ after)) (length (bitsOfAll before)) (f .width) ≡ f .value
-unfolding packed bytesFor bitsOfAll eachOf
-packed-read-back before after f h =
-    let all : List Field = before ++ f ∷ after in
-    let at : ℕ = length (bitsOfAll before) in
-    let own : List ℕ = bitsOf (f .width) (f .value) in
-    let parts : bitsOfAll all ≡ bitsOfAll before ++ (own ++ bitsOfAll after) = all-written-append before (f ∷ after) in
-    let long : length (bitsOfAll all) ≡ at + (f .width + length (bitsOfAll after)) =
-    rw (parts, length-append, length-append, written-length) in
-    let n : ℕ = bytesFor (length (bitsOfAll all)) in
-    let field = field-read-back n (bitsOfAll all) (λ j _. all-written-below all j) at (f .width) (omega arith) in
-    field ∙ rw (parts, drop-append-seam) (read-of-written (f .width) (f .value) (bitsOfAll after) h)
+unfolding bitsOfAll
+all-written-append before after = each-of-append (λ f. bitsOf (f .width) (f .value)) before after

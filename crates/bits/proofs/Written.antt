@@ -1,5 +1,5 @@
--- Fields read and fields written: each bit of a written field, the value read of what was written, the bits written of
--- what was read, and that two values written alike are the same. No contract cites this file. Assumes nothing.
+-- The bits of a value as a list: each bit of a written field, the value read of what was written, that two values
+-- written alike are the same, and each bit of a number that bits form. No contract cites this file. Assumes nothing.
 use Prim.Native.Nat.{ℕ, zero, suc, _+_, _-_, _*_, _/_, _%_, _^_, _<_, _≤_}
 use mathlib.Core.Path.{_≡_, refl, sym, ap, _∙_}
 use mathlib.Core.List.{List, [], _++_}
@@ -7,8 +7,7 @@ use native.Mathlib.Nat.{sub-zero, sub-self, suc-sub-suc, add-zero, add-suc, pow-
 use native.Mathlib.Nat.{div-eq-of-lt, div-div-eq-div-mul}
 use native.Mathlib.Omega.{arith}
 use lib.Dec.{lit<}
-use lib.ListN.{length, getD, take, List·getD-append}
-use lib.Seq.{ext-getD, getD-take, length-take-le}
+use lib.ListN.{length, getD, List·getD-append}
 use Rattle.bits.specs.Bits.{bitAt, fieldAt}
 use Rattle.bits.specs.Packing.{bitsOf, formedBy}
 use Rattle.bits.proofs.Fields.{field-cut}
@@ -79,14 +78,6 @@ formed-bit w bits j each h =
     let bit = each j h in
     let first = formed-first bits (suc j) u (λ i below. each i (omega arith)) in
     ap (λ n. formedBy n bits / 2 ^ u % 2) width ∙ ap (λ n. n % 2) first ∙ omega arith
-
--- written of read
-pub written-of-read : (w : ℕ) (bits : List ℕ) → BitsTo w bits → w ≤ length bits
-    → bitsOf w (formedBy w bits) ≡ take w bits
-written-of-read w bits each long =
-    ext-getD 0 _ _ (written-length w _ ∙ sym (length-take-le w bits long)) (λ j below.
-    let h : j < w = rw written-length at below in
-    written-bit w (formedBy w bits) j h ∙ formed-bit w bits j each h ∙ sym (getD-take w bits j 0 h))
 
 -- bit j of a field of some bytes, written again, is the bit at its place
 pub field-written : (bytes : List ℕ) (at w j : ℕ) → j < w

@@ -10,6 +10,10 @@ pub record Field : Type 0 where
   pub width : ℕ
   pub value : ℕ
 
+-- so many bits with this value
+abbrev pub bits : ℕ → ℕ → Field
+bits width value = record { width = width; value = value }
+
 -- the bits of a value in a field of a width, most significant bit first
 unfoldable pub bitsOf : ℕ → ℕ → List ℕ
 bitsOf zero value = []

@@ -3,7 +3,7 @@ ghost use mathlib.Core.Path.{_≡_};
 ghost use Prim.Native.Nat.{ℕ, _+_, _-_, _*_, _≤_, _<_, _^_, min};
 ghost use lib.ListN.{length};
 ghost use Rattle.bits.specs.Bits.{fieldAt};
-ghost use Rattle.bits.specs.Found.{foundAt};
+ghost use Rattle.bits.specs.Found.{foundAt, saidOfFound};
 
 // What stands at a place: the field's value, or nothing, since the bytes end inside or before it.
 pub enum Found {
@@ -41,7 +41,7 @@ fn capped(width: usize) -> usize
 
 // The field of `width` bits from bit `at`. A field is at most 32 bits wide: a greater width is taken for 32.
 pub fn field_at(bytes: &[u8], at: usize, width: usize) -> Found
-    ensures { λ r. ⌜ r ≡ foundAt (now (bytes .entry)) at (min width 32) ⌝ }
+    ensures { λ r. ⌜ saidOfFound at r ≡ foundAt (now (bytes .entry)) at (min width 32) ⌝ }
 {
     let wide = capped(width);
     let from = at / 8;

@@ -1,7 +1,7 @@
 -- What the C interface says, from what is said to a question: number 0 and the answer's values, or the number and the
 -- place of document 01, Numbers that say no, and 0 for each value, since a refusal "carries no other value". Assumes
 -- nothing.
-use Rattle.table.specs.Outcome.{Outcome, gives, refuses}
+use Rattle.outcomes.specs.Outcome.{Outcome, gives, refuses}
 use Rattle.questions.specs.Questions.{Points}
 use Rattle.capi.specs.declared.LiskobranAnswer.{LiskobranAnswer}
 use Rattle.capi.specs.declared.LiskobranPoints.{LiskobranPoints}

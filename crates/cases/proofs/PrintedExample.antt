@@ -2,6 +2,7 @@
 -- crates/cases/specs/Example.antt. Assumes nothing.
 use Rattle.lists.specs.Lists.{someBelow, eachBelow, eachOf, padded}
 use Rattle.bits.specs.Bits.{bitCount, bitAt, fieldAt}
+use Rattle.bits.specs.Found.{foundAt}
 use Rattle.bits.specs.Packing.{bitsOf, bitsOfAll, formedBy, bytesOf, bytesFor, packed}
 use Rattle.times.specs.Releases.{release, jobEnd, firstFrom}
 use Rattle.times.specs.Hyperperiod.{gcdIn, gcd, lcm, lcmFrom, lcmOf}
@@ -26,7 +27,7 @@ use Rattle.printing.specs.Printed.{copyText, frameText, coreText, chainText, wh
 pub printed-example : printed example ≡ exampleText
 unfolding someBelow eachBelow eachOf padded bitCount bitAt fieldAt bitsOf bitsOfAll formedBy bytesOf bytesFor
     packed release jobEnd firstFrom gcdIn gcd lcm lcmFrom lcmOf publishing reading isPublishing
-    isReading publishesAt servesAt field inRow check coreOf periodOf timingOf writerOf marks reads joins
+    isReading publishesAt servesAt field foundAt inRow check coreOf periodOf timingOf writerOf marks reads joins
     hyperperiodOf between headFields taskFields rightReaders labelFields tableOf rowsOf stepHolds
     chainTask chainFields fill allFields wholeFields readImage answerOf written served writesAt readsAt
     copiesAt framesAt framesOf copyFields frameFields listingFields listingOf follow endOf isBasic

@@ -2,6 +2,7 @@
 use mathlib.Core.Path.{refl}
 use Rattle.lists.specs.Lists.{someBelow, eachBelow, eachOf, padded}
 use Rattle.bits.specs.Bits.{bitCount, bitAt, fieldAt}
+use Rattle.bits.specs.Found.{foundAt}
 use Rattle.bits.specs.Packing.{bitsOf, bitsOfAll, formedBy, bytesOf, bytesFor, packed}
 use Rattle.times.specs.Releases.{release, jobEnd, firstFrom}
 use Rattle.times.specs.Hyperperiod.{gcdIn, gcd, lcm, lcmFrom, lcmOf}
@@ -16,16 +17,17 @@ use Rattle.copies.specs.Listing.{copyFields, frameFields, listingFields, listin
 use Rattle.ages.specs.Ages.{follow, endOf, isBasic, lengthOf, ageOf, roundOf, basicPaths, largest, least, worstAge}
 use Rattle.ages.specs.Ages.{bestAge, agesOf}
 use Rattle.questions.specs.Questions.{listing}
+use Rattle.printing.specs.Rounds.{hyperperiod}
 use Rattle.cases.specs.Starred.{AllHold, Holds, starred}
 
 pub starred-cases-hold : AllHold starred
 unfolding AllHold Holds someBelow eachBelow eachOf padded bitCount bitAt fieldAt bitsOf bitsOfAll formedBy
     bytesOf bytesFor packed release jobEnd firstFrom gcdIn gcd lcm lcmFrom lcmOf publishing reading
-    isPublishing isReading publishesAt servesAt field inRow check coreOf periodOf timingOf writerOf
+    isPublishing isReading publishesAt servesAt field foundAt inRow check coreOf periodOf timingOf writerOf
     marks reads joins hyperperiodOf between headFields taskFields rightReaders labelFields tableOf
     rowsOf stepHolds chainTask chainFields fill allFields wholeFields readImage answerOf written served
     writesAt readsAt copiesAt framesAt framesOf copyFields frameFields listingFields listingOf follow
-    endOf isBasic lengthOf ageOf roundOf basicPaths largest least worstAge bestAge agesOf listing
+    endOf isBasic lengthOf ageOf roundOf basicPaths largest least worstAge bestAge agesOf listing hyperperiod
 starred-cases-hold = (
   (refl, refl),
   (

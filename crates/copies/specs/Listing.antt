@@ -5,13 +5,10 @@ use Prim.Native.Nat.{ℕ}
 use mathlib.Core.List.{List, [], _∷_}
 use lib.ListN.{length}
 use Rattle.lists.specs.Lists.{eachOf}
-use Rattle.bits.specs.Packing.{Field, packed}
+use Rattle.bits.specs.Packing.{Field, bits, packed}
 use Rattle.table.specs.Table.{hyperperiodOf}
 use Rattle.table.specs.declared.Table.{Table}
 use Rattle.copies.specs.Copies.{Copy, write, read, Frame, framesOf}
-
-abbrev bits : ℕ → ℕ → Field
-bits width value = record { width = width; value = value }
 
 -- "each copy as kind 1 (0 write, 1 read), label 6, task 5 (the writer's or the reader's)"
 unfoldable pub copyFields : Copy → List Field

@@ -1,5 +1,7 @@
 -- Laws of the definitions, for the crates above.
 pub mod All
 pub mod Bools
+pub mod Each
 pub mod Lists
+pub mod Padded
 pub mod SomeOf

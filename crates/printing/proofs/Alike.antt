@@ -1,35 +1,26 @@
 -- Two images that are longer than so many bytes and agree in them: a reader that takes its fields within those bytes
 -- takes the same from both. No contract cites this file. Assumes nothing.
 use Prim.Native.Nat.{ℕ, zero, suc, _+_, _*_, _-_, _/_, _%_, _^_, _≤_, _<_}
-use mathlib.Core.Bool.{Bool, true, false, cond}
+use mathlib.Core.Bool.{Bool, true, false}
 use mathlib.Core.List.{List, [], _∷_, _++_}
 use mathlib.Core.Path.{_≡_, refl, sym, ap, ap₂, _∙_}
 use native.Mathlib.Nat.{suc-mul, mul-le-mul-right}
 use native.Mathlib.Omega.{arith}
 use borrow.Author.Tests.{le-leb}
-use lib.Dec.{leb}
 use lib.ListN.{length, getD}
 use Rattle.bits.specs.Bits.{bitCount, bitAt, fieldAt}
-use Rattle.table.specs.Outcome.{Outcome, gives, refuses, askedOf}
+use Rattle.bits.specs.Found.{foundAt}
+use Rattle.outcomes.specs.Outcome.{Outcome, gives, refuses, askedOf}
 use Rattle.table.specs.Reading.{Taker, Taken, done, _then_, field, inRow, check}
+use Rattle.table.proofs.FieldLaws.{taken-field}
 use Rattle.table.proofs.Checks.{Checks, checks-nothing}
-use Rattle.table.proofs.Refusals.{same-given, gives-no-refusal}
+use Rattle.outcomes.proofs.Outcomes.{same-given, gives-no-refusal}
 
 -- a field that was taken ends before the next bit
 field-next : (w number : ℕ) (right : ℕ → Bool) (image : List ℕ) (at : ℕ) (given : Taken ℕ)
     → field w number right image at ≡ gives given → given .next ≡ at + w
-unfolding field
-field-next w number right image at given e = go (leb (at + w) (bitCount image)) (right (fieldAt image at w)) e
-  where
-    go : (inside good : Bool)
-        → cond inside
-        (cond good (gives (record { value = fieldAt image at w; next = at + w })) (refuses number at))
-        (refuses 1 at)
-        ≡ gives given
-        → given .next ≡ at + w
-    go true true e = ap (λ taken. taken .next) (sym (same-given e))
-    go true false e = absurd (gives-no-refusal (sym e))
-    go false good e = absurd (gives-no-refusal (sym e))
+field-next w number right image at given e =
+    sym (ap (λ taken. taken .next) (taken-field w number right at image given e .is))
 
 -- both are longer than `most` bytes, and agree in as many
 pub record Agree (a b : List ℕ) (most : ℕ) : Type 0 where
@@ -55,7 +46,7 @@ module _ {a b : List ℕ} {most : ℕ} (agree : Agree a b most) where
 
   field-equal : (w number : ℕ) (right : ℕ → Bool) (at : ℕ) → at + w ≤ 8 * most
       → field w number right a at ≡ field w number right b at
-  unfolding field bitCount
+  unfolding field foundAt bitCount
   field-equal w number right at inside =
       let in-a : at + w ≤ 8 * length a = omega (arith, agree .long-a) in
       let in-b : at + w ≤ 8 * length b = omega (arith, agree .long-b) in

@@ -3,7 +3,8 @@
 use Prim.Native.Nat.{ℕ}
 use mathlib.Core.Path.{_≡_, sym, _∙_}
 use mathlib.Core.List.{List}
-use Rattle.table.proofs.Refusals.{same-refused, gives-no-refusal}
+use Rattle.outcomes.proofs.Outcomes.{gives-no-refusal}
+use Rattle.table.proofs.Refusals.{same-refused}
 use Rattle.printing.specs.Rounds.{saidOfHyperperiod, hyperperiod}
 use Rattle.printing.specs.declared.HyperperiodAnswer.{HyperperiodAnswer}
 use Rattle.printing.specs.declared.HyperperiodAnswer.the-variants.{Hyperperiod, Refused}

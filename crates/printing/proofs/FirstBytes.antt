@@ -10,15 +10,15 @@ use lib.Dec.{leb, eqb}
 use lib.ListN.{length, take}
 use lib.Seq.{getD-take, length-take-le}
 use Rattle.bits.specs.Bits.{bitCount}
-use Rattle.table.specs.Outcome.{gives, askedOf}
+use Rattle.outcomes.specs.Outcome.{gives, askedOf}
 use Rattle.table.specs.Reading.{_then_, field, inRow, check}
 use Rattle.table.specs.Image.{between, headFields, taskFields, labelFields, chainFields, fill, allFields, wholeFields}
 use Rattle.table.specs.Image.{readImage}
 use Rattle.table.specs.declared.Table.{Table}
 use Rattle.table.proofs.Checks.{checks-nothing, field-checks}
-use Rattle.table.proofs.Refusals.{gives-no-refusal}
+use Rattle.outcomes.proofs.Outcomes.{gives-no-refusal}
 use Rattle.table.proofs.Steps.{between-bounds}
-use Rattle.table.proofs.Whole.{head-few}
+use Rattle.table.proofs.FieldRules.{head-counts}
 use Rattle.printing.proofs.Alike.{Agree, Alike, field-alike, done-alike, check-alike, then-alike, rows-alike}
 
 module _ {a b : List ℕ} {most : ℕ} (agree : Agree a b most) where
@@ -81,13 +81,13 @@ module _ {a b : List ℕ} {most : ℕ} (agree : Agree a b most) where
     all-alike : Alike agree 3841 allFields
     unfolding allFields
     all-alike =
-        then-alike agree _ 26 3815 (omega arith) headFields _ head-few head-alike (λ head few.
+        then-alike agree _ 26 3815 (omega arith) headFields _ head-counts head-alike (λ head counts.
         then-alike agree _ 736 3079 (omega arith) (inRow (head .tasks) _) _ (checks-nothing _)
-        (rows-alike agree 23 32 _ (λ before. task-alike _) (head .tasks) (few .tasks)) (λ tasks free.
+        (rows-alike agree 23 32 _ (λ before. task-alike _) (head .tasks) (counts .tasks .1)) (λ tasks free.
         then-alike agree _ 2368 711 (omega arith) (inRow (head .labels) _) _ (checks-nothing _)
-        (rows-alike agree 37 64 _ (λ before. label-alike _) (head .labels) (few .labels)) (λ labels free.
+        (rows-alike agree 37 64 _ (λ before. label-alike _) (head .labels) (counts .labels .1)) (λ labels free.
         then-alike agree _ 704 7 (omega arith) (inRow (head .chains) _) _ (checks-nothing _)
-        (rows-alike agree 44 16 _ (λ before. chain-alike _) (head .chains) (few .chains)) (λ chains free.
+        (rows-alike agree 44 16 _ (λ before. chain-alike _) (head .chains) (counts .chains .1)) (λ chains free.
         then-alike agree _ 7 0 (omega arith) fill _ (checks-nothing _) fill-alike
         (λ filled free. done-alike agree _)))))
 

@@ -5,7 +5,7 @@ use mathlib.Core.List.{List, [], _∷_, _++_}
 use lib.Dec.{ltb}
 use lib.ListN.{length}
 use Rattle.lists.specs.Lists.{someBelow, eachBelow, eachOf}
-use Rattle.table.specs.Outcome.{Outcome, gives, refuses, askedOf}
+use Rattle.outcomes.specs.Outcome.{Outcome, gives, refuses, askedOf}
 use Rattle.table.specs.Table.{hyperperiodOf}
 use Rattle.table.specs.Image.{Whole, readImage}
 use Rattle.table.specs.declared.Table.{Table}

@@ -1,13 +1,10 @@
 -- The hyperperiod H of an image: what the first line prints. Assumes nothing.
 use Prim.Native.Nat.{ℕ}
-use mathlib.Core.Bool.{cond}
 use mathlib.Core.List.{List}
-use lib.Dec.{leb}
-use Rattle.table.specs.Outcome.{Outcome, gives, refuses, askedOf}
+use Rattle.outcomes.specs.Outcome.{Outcome, gives, refuses, askedOf}
 use Rattle.table.specs.Refusals.{numberOf}
 use Rattle.table.specs.Table.{hyperperiodOf}
 use Rattle.table.specs.Image.{readImage}
-use Rattle.table.specs.declared.Table.{Table}
 use Rattle.printing.specs.declared.HyperperiodAnswer.{HyperperiodAnswer}
 use Rattle.printing.specs.declared.HyperperiodAnswer.the-variants.{Hyperperiod, Refused}
 
@@ -19,7 +16,3 @@ saidOfHyperperiod (Refused refusal place) = refuses (numberOf refusal) place
 -- the hyperperiod of an accepted image's table, or the image's refusal
 unfoldable pub hyperperiod : List ℕ → Outcome ℕ
 hyperperiod image = askedOf (readImage image) (λ whole. gives (hyperperiodOf (whole .table)))
-
--- the same of a table: 10 where H is above 1,000,000, as it is in no table of an accepted image
-unfoldable pub hyperperiodWithin : Table → Outcome ℕ
-hyperperiodWithin table = cond (leb (hyperperiodOf table) 1000000) (gives (hyperperiodOf table)) (refuses 10 0)

@@ -1,7 +1,9 @@
 // What the printing program prints of an image (document 01, The printing program): the numbers of its lines. What each
 // line says: specs/.
 ghost use mathlib.Core.Path.{_≡_};
-ghost use Rattle.printing.specs.Rounds.{saidOfHyperperiod, hyperperiod, hyperperiodWithin};
+ghost use Rattle.printing.specs.Rounds.{saidOfHyperperiod, hyperperiod};
+ghost use Rattle.times.specs.Rounds.{withinLimit};
+ghost use Rattle.table.specs.Table.{hyperperiodOf};
 use table::Answer;
 use table::Refusal;
 use table::Table;
@@ -15,7 +17,7 @@ pub enum HyperperiodAnswer {
 
 // The hyperperiod of a table's tasks, or 10.
 fn round_of(table: Table) -> HyperperiodAnswer
-    ensures { λ r. ⌜ saidOfHyperperiod r ≡ hyperperiodWithin table ⌝ }
+    ensures { λ r. ⌜ saidOfHyperperiod r ≡ withinLimit (hyperperiodOf table) ⌝ }
 {
     let period = table.period;
     let round = times::rounds::hyperperiod(period, table.tasks);

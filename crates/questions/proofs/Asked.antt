@@ -3,7 +3,7 @@
 use Prim.Native.Nat.{ℕ}
 use mathlib.Core.List.{List}
 use mathlib.Core.Path.{_≡_, sym, ap, _∙_}
-use Rattle.table.specs.Outcome.{Outcome, refuses, askedOf}
+use Rattle.outcomes.specs.Outcome.{Outcome, refuses, askedOf}
 use Rattle.table.specs.Refusals.{numberOf, saidOfImage}
 use Rattle.table.specs.Image.{Whole, readImage}
 use Rattle.table.specs.Shown.{answerOf, nothing, acceptedOr, shownOf, TableShown}
@@ -11,7 +11,7 @@ use Rattle.table.specs.declared.Answer.the-variants.{Accepted, Refused}
 use Rattle.table.specs.declared.Refusal.{Refusal}
 use Rattle.table.specs.declared.Table.{Table}
 use Rattle.table.specs.declared.TableRead.{TableRead}
-use Rattle.table.proofs.Refusals.{refusal-handed-on, something-given}
+use Rattle.outcomes.proofs.Outcomes.{refusal-handed-on, something-given}
 
 module _ (image : List ℕ) (read : TableRead) (shown : TableShown image read) where
   -- the image is refused

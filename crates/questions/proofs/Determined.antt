@@ -4,10 +4,11 @@ use Prim.Native.Nat.{ℕ}
 use mathlib.Core.Path.{_≡_, sym, ap, _∙_}
 use mathlib.Core.List.{List}
 use lib.ListN.{length}
-use Rattle.table.specs.Outcome.{refuses}
+use Rattle.outcomes.specs.Outcome.{refuses}
 use Rattle.table.specs.Image.{readImage}
 use Rattle.table.specs.Shown.{answerOf}
-use Rattle.table.proofs.Refusals.{same-refused, same-given, gives-no-refusal, refusal-handed-on}
+use Rattle.outcomes.proofs.Outcomes.{same-given, gives-no-refusal, refusal-handed-on}
+use Rattle.table.proofs.Refusals.{same-refused}
 use Rattle.questions.specs.Questions.{points, listing, bytesListed, lentAfter, ages}
 use Rattle.questions.specs.Answers.{saidOfPoints, saidOfListing, saidOfAges}
 use Rattle.questions.specs.declared.PointsAnswer.{PointsAnswer}

@@ -7,7 +7,7 @@ use lib.Dec.{leb, ltb}
 use borrow.Author.Tests.{leb-true}
 use Rattle.lists.proofs.Bools.{and-parts}
 use Rattle.times.specs.Points.{publishing, reading}
-use Rattle.table.specs.Outcome.{Outcome, gives, refuses}
+use Rattle.outcomes.specs.Outcome.{Outcome, gives, refuses}
 use Rattle.table.specs.Table.{timingOf, joins}
 use Rattle.table.specs.declared.Table.{Table}
 use Rattle.questions.specs.Questions.{Points, unlessRefused, pointsOf}

@@ -1,6 +1,6 @@
 -- What each answer says: for each case of each enum the numbers of document 01. Assumes nothing.
 use Prim.Native.Nat.{ℕ}
-use Rattle.table.specs.Outcome.{Outcome, gives, refuses}
+use Rattle.outcomes.specs.Outcome.{Outcome, gives, refuses}
 use Rattle.table.specs.Refusals.{numberOf}
 use Rattle.ages.specs.Ages as spec
 use Rattle.questions.specs.Questions as question

@@ -7,10 +7,11 @@ use mathlib.Core.Logic.{_≢_}
 use native.Mathlib.Omega.{arith}
 use Rattle.lists.specs.Lists.{someBelow, eachBelow, eachOf, padded}
 use Rattle.bits.specs.Bits.{bitCount, bitAt, fieldAt}
+use Rattle.bits.specs.Found.{foundAt}
 use Rattle.times.specs.Releases.{isRelease}
 use Rattle.times.specs.Hyperperiod.{gcdIn, gcd, lcm, lcmFrom, lcmOf}
 use Rattle.times.specs.Points.{publishing, reading, isPublishing, isReading, publishesAt, servesAt}
-use Rattle.table.specs.Outcome.{gives}
+use Rattle.outcomes.specs.Outcome.{gives}
 use Rattle.table.specs.Reading.{field, inRow, check}
 use Rattle.table.specs.Table.{coreOf, periodOf, timingOf, writerOf, marks, reads, hyperperiodOf}
 use Rattle.table.specs.Image.{between, headFields, taskFields, rightReaders, labelFields, tableOf, rowsOf, fill}
@@ -44,7 +45,8 @@ unfolding readingByFloor servedByFloor publishedForOne stateAfterReadingFirst va
 of-errors = tt
 
 of-image : Unit {0}
-unfolding bitCount bitAt fieldAt field inRow check between headFields taskFields rightReaders labelFields fill allFields
+unfolding bitCount bitAt fieldAt field foundAt inRow check between headFields taskFields rightReaders labelFields fill
+    allFields
 of-image = tt
 
 of-listings : Unit {0}

@@ -4,7 +4,7 @@
 use Prim.Native.Nat.{ℕ}
 use mathlib.Core.Path.{_≡_, ap, _∙_}
 use mathlib.Core.List.{List}
-use Rattle.table.specs.Outcome.{gives}
+use Rattle.outcomes.specs.Outcome.{gives}
 use Rattle.table.specs.Image.{Whole, readImage}
 use Rattle.copies.specs.Plans.{listedPlan, fullPlan}
 use Rattle.runs.specs.Runs.{Turns, valuesRead}

@@ -4,7 +4,7 @@ use mathlib.Core.List.{List, [], _∷_, map}
 use lib.ListN.{getD}
 use Rattle.table.specs.Image.{Task, Label, tableOf}
 use Rattle.table.specs.declared.Table.{Table}
-use Rattle.runs.specs.Runs.{Reading, readsIncoming, writesOutgoing, Turns}
+use Rattle.runs.specs.Runs.{ValueRead, readsIncoming, writesOutgoing, Turns}
 
 abbrev task : ℕ → Task
 task T = record { core = 0; period = T }
@@ -48,9 +48,9 @@ twoReadersImage =
     ∷ 0x00 ∷ 0x0c ∷ 0x06 ∷ 0x00 ∷ 0x00 ∷ 0x00 ∷ 0x00 ∷ []
 
 -- the sum of all values read
-unfoldable pub total : List (Reading ℕ) → ℕ
+unfoldable pub total : List (ValueRead ℕ) → ℕ
 total [] = 0
-total (reading ∷ more) = reading .value + total more
+total (first ∷ more) = first .value + total more
 
 -- at every tick task 0 reads label 1 and then writes label 0, and task 1 reads label 0 and then writes label 1: each
 -- writes a number made of the tick and of all that it has read
@@ -67,6 +67,6 @@ unfoldable pub tell : (readers : List ℕ) → Turns ℕ
 tell [] t = record { task = 0; act = λ t read. writesOutgoing 0 (suc t) } ∷ []
 tell (r ∷ more) t = record { task = r; act = λ t read. readsIncoming 0 } ∷ tell more t
 
--- the value of the reading of number k
-abbrev pub valueOf : ℕ → List (Reading ℕ) → ℕ
-valueOf k readings = getD (map (λ reading. reading .value) readings) k 0
+-- of all that was read, the value of number k, counted from 0
+abbrev pub valueOf : ℕ → List (ValueRead ℕ) → ℕ
+valueOf k read = getD (map (λ one. one .value) read) k 0

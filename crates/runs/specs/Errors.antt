@@ -11,7 +11,7 @@ use Rattle.table.specs.Table.{timingOf, writerOf, reads, hyperperiodOf}
 use Rattle.table.specs.declared.Table.{Table}
 use Rattle.copies.specs.Copies.{written, served}
 use Rattle.copies.specs.Plans.{Plan}
-use Rattle.runs.specs.Runs.{Turns, Reading, State, atStart, afterWrites, afterReads, afterActs}
+use Rattle.runs.specs.Runs.{Turns, ValueRead, State, atStart, afterWrites, afterReads, afterActs}
 
 -- "Taking the reading point by floor, so that a fast reader is served before the writer has published."
 unfoldable pub readingByFloor : Timing → Timing → ℕ → ℕ
@@ -40,7 +40,7 @@ stateAfterReadingFirst plan initial turns (suc t) =
     afterActs turns t (afterWrites plan t (afterReads plan t (stateAfterReadingFirst plan initial turns t)))
 
 unfoldable pub valuesReadingFirst : {Value : Type 0}
-    → Plan → (initial : ℕ → Value) → Turns Value → ℕ → List (Reading Value)
+    → Plan → (initial : ℕ → Value) → Turns Value → ℕ → List (ValueRead Value)
 valuesReadingFirst plan initial turns n = stateAfterReadingFirst plan initial turns n .jobs .read
 
 -- "Leaving instant 0 out because nothing has been written yet: in the second round it carries the last jobs' values."

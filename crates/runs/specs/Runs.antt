@@ -10,7 +10,7 @@ use lib.Dec.{eqb}
 use Rattle.copies.specs.Plans.{Plan}
 
 -- a value that a job read: at which tick, of which task the job is, of which label the copy
-pub record Reading (Value : Type 0) : Type 0 where
+pub record ValueRead (Value : Type 0) : Type 0 where
   pub tick : ℕ
   pub task : ℕ
   pub label : ℕ
@@ -22,25 +22,25 @@ pub data Act (Value : Type 0) : Type 0 where
   writesOutgoing : (label : ℕ) (value : Value) → Act Value
   rests : Act Value
 
--- a turn of a task. Jobs are arbitrary: "what they write may depend in any way on the tick and on what their task has
--- read"; and so may whether they read or write at all, and which label
+-- a turn of a task. Jobs are arbitrary, as the third demand says: "what they write may depend in any way on the tick
+-- and on what their task has read"; and so may whether they read or write at all, and which label
 pub record Turn (Value : Type 0) : Type 0 where
   pub task : ℕ
-  pub act : (tick : ℕ) → List (Reading Value) → Act Value
+  pub act : (tick : ℕ) → List (ValueRead Value) → Act Value
 
 -- the turns at each tick in their order: any number of them, of any tasks
 abbrev pub Turns : Type 0 → Type 0
 Turns Value = (tick : ℕ) → List (Turn Value)
 
--- what jobs leave behind: the outgoing copy of each label, and all that was read so far, the first reading first
+-- what jobs leave behind: the outgoing copy of each label, and all that was read so far, in the order of reading
 pub record Jobs (Value : Type 0) : Type 0 where
   pub outgoing : (label : ℕ) → Value
-  pub read : List (Reading Value)
+  pub read : List (ValueRead Value)
 
 -- of what was read, what one task has read
-unfoldable pub readBy : {Value : Type 0} → ℕ → List (Reading Value) → List (Reading Value)
+unfoldable pub readBy : {Value : Type 0} → ℕ → List (ValueRead Value) → List (ValueRead Value)
 readBy task [] = []
-readBy task (reading ∷ more) = cond (eqb (reading .task) task) (reading ∷ readBy task more) (readBy task more)
+readBy task (first ∷ more) = cond (eqb (first .task) task) (first ∷ readBy task more) (readBy task more)
 
 -- an act of task i at tick t
 unfoldable pub afterAct : {Value : Type 0} → (incoming : ℕ → ℕ → Value) (t i : ℕ) → Act Value → Jobs Value → Jobs Value
@@ -107,5 +107,5 @@ stateAfter plan initial turns (suc t) =
     afterActs turns t (afterReads plan t (afterWrites plan t (stateAfter plan initial turns t)))
 
 -- all that jobs read in the first n ticks
-unfoldable pub valuesRead : {Value : Type 0} → Plan → (initial : ℕ → Value) → Turns Value → ℕ → List (Reading Value)
+unfoldable pub valuesRead : {Value : Type 0} → Plan → (initial : ℕ → Value) → Turns Value → ℕ → List (ValueRead Value)
 valuesRead plan initial turns n = stateAfter plan initial turns n .jobs .read

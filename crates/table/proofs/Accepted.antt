@@ -1,109 +1,94 @@
--- Every accepted table is sound: what the checks of its image's fields tell. Assumes nothing.
-use Prim.Native.Nat.{ℕ, _<_}
-use mathlib.Core.Bool.{Bool, true, false, not, _&&_, _||_}
+-- What is known of every accepted table: the parts that its image was read as, with their rules; that it is sound; and
+-- its hyperperiod's limit. Assumes nothing.
+use Prim.Native.Nat.{ℕ}
+use mathlib.Core.Bool.{true}
 use mathlib.Core.Path.{_≡_, refl, sym, subst}
-use mathlib.Core.List.{List}
-use lib.Dec.{leb, ltb, eqb}
-use borrow.Author.Tests.{ltb-true, leb-true, not-true}
-use Rattle.lists.proofs.Bools.{and-parts}
-use Rattle.lists.proofs.Lists.{someBelow-none-passes}
-use Rattle.table.specs.Outcome.{Outcome, gives, refuses, askedOf}
-use Rattle.table.specs.Reading.{Taken, field, inRow, check}
-use Rattle.table.specs.Table.{marks, hyperperiodOf}
-use Rattle.table.specs.Image.{between, headFields, taskFields, rightReaders, labelFields, fill}
-use Rattle.table.specs.Image.{Whole, allFields, wholeFields, readImage}
-use Rattle.table.proofs.Refusals.{same-given, gives-no-refusal}
-use Rattle.table.proofs.Checks.{Checks, checks-nothing, done-checks, then-checks, field-checks, check-checks}
-use Rattle.table.proofs.Checks.{row-checks}
-use Rattle.table.proofs.Sound.{Sound, MarksBelow, table-sound}
+use mathlib.Core.List.{List, []}
+use lib.Dec.{leb}
+use lib.ListN.{length}
+use Rattle.lists.proofs.All.{All}
+use Rattle.outcomes.specs.Outcome.{Outcome, gives, refuses, askedOf}
+use Rattle.outcomes.proofs.Outcomes.{same-given, gives-no-refusal}
+use Rattle.table.specs.Reading.{Taken, inRow, check}
+use Rattle.table.specs.Table.{hyperperiodOf}
+use Rattle.table.specs.Image.{Head, Task, Label, Whole, headFields, tableOf, rowsOf, fill, allFields, wholeFields}
+use Rattle.table.specs.Image.{readImage}
+use Rattle.table.specs.Rules.{ChainMeets}
+use Rattle.table.proofs.ChainRules.{chain-checks}
+use Rattle.table.proofs.Checks.{Checks, checks-nothing, done-checks, then-checks, check-checks, row-checks}
+use Rattle.table.proofs.FieldRules.{Counts, head-counts, TaskRules, task-rules, LabelRules, label-rules}
+use Rattle.table.proofs.Sound.{Sound, table-sound}
 
-head-checks : Checks (λ head. 0 < head .tasks) headFields
-unfolding headFields between
-head-checks =
-    then-checks _ _ (field 4 2 _) _ (checks-nothing _) (λ version free.
-    then-checks _ _ (field 4 3 _) _ (checks-nothing _) (λ cores free.
-    then-checks _ _ (field 6 3 _) _ (field-checks 6 3 (between 1 32)) (λ tasks right.
-    then-checks _ _ (field 7 3 _) _ (checks-nothing _) (λ labels free.
-    then-checks _ _ (field 5 3 _) _ (checks-nothing _) (λ chains free.
-    done-checks (λ head. 0 < head .tasks) _ (leb-true 1 tasks (and-parts _ _ right .0)))))))
+-- what an image tells of its table: the parts that it is put together of, and the rules that each of them meets
+pub record Told (whole : Whole) : Type 0 where
+  pub head : Head
+  pub tasks : List Task
+  pub labels : List Label
+  pub chains : List (List ℕ)
+  pub is : record { table = tableOf head tasks labels chains; rows = rowsOf chains } ≡ whole
+  pub counts : Counts head
+  pub of-tasks : (length tasks ≡ head .tasks) × All (TaskRules (head .cores)) tasks
+  pub of-labels : (length labels ≡ head .labels) × All (LabelRules (head .tasks)) labels
+  pub of-chains : (length chains ≡ head .chains) × All (ChainMeets (tableOf head tasks labels [])) chains
 
-task-checks : (cores : ℕ) → Checks (λ task. (task .core < cores) × (0 < task .period)) (taskFields cores)
-unfolding taskFields between
-task-checks cores =
-    then-checks _ _ (field 3 4 _) _ (field-checks 3 4 (λ core. ltb core cores)) (λ core known.
-    then-checks _ _ (field 20 5 _) _ (field-checks 20 5 (between 1 1000000)) (λ period right.
-    done-checks (λ task. (task .core < cores) × (0 < task .period)) _
-    (ltb-true core cores known, leb-true 1 period (and-parts _ _ right .0))))
-
--- a readers field that is right marks only tasks of the table
-right-marks : (tasks writer readers : ℕ) → rightReaders tasks writer readers ≡ true → MarksBelow tasks readers
-unfolding rightReaders marks
-right-marks tasks writer readers right i marked =
-    let inside = ltb-true i 32 (and-parts (ltb i 32) _ marked .0) in
-    let passed = someBelow-none-passes 32 _ (not-true _ right) i inside in
-    ltb-true i tasks (go (marks readers i) (ltb i tasks) (eqb i writer) marked passed)
-  where
-    go : (a b c : Bool) → a ≡ true → (a && (not b || c)) ≡ false → b ≡ true
-    go a true c marked passed = refl
-    go true false c marked passed = sym passed
-    go false false c marked passed = marked
-
-label-checks : (tasks : ℕ)
-    → Checks (λ label. (label .writer < tasks) × MarksBelow tasks (label .readers)) (labelFields tasks)
-unfolding labelFields
-label-checks tasks =
-    then-checks _ _ (field 5 6 _) _ (field-checks 5 6 (λ writer. ltb writer tasks)) (λ writer known.
-    then-checks _ _ (field 32 7 _) _ (field-checks 32 7 (rightReaders tasks writer)) (λ readers right.
-    done-checks (λ label. (label .writer < tasks) × MarksBelow tasks (label .readers)) _
-    (ltb-true writer tasks known, right-marks tasks writer readers right)))
-
-all-checks : Checks (λ whole. Sound (whole .table)) allFields
+all-told : Checks Told allFields
 unfolding allFields
-all-checks =
-    then-checks _ _ headFields _ head-checks (λ head some-task.
-    then-checks _ _ (inRow (head .tasks) _) _ (row-checks _ _ (λ before. task-checks _) (head .tasks)) (λ tasks row.
-    then-checks _ _ (inRow (head .labels) _) _ (row-checks _ _ (λ before. label-checks (head .tasks)) (head .labels))
-    (λ labels known.
-    then-checks _ _ (inRow (head .chains) _) _ (checks-nothing _) (λ chains free.
+all-told =
+    then-checks _ _ headFields _ head-counts (λ head counts.
+    then-checks _ _ (inRow (head .tasks) _) _ (row-checks _ _ (λ before. task-rules (head .cores)) (head .tasks))
+    (λ tasks of-tasks.
+    then-checks _ _ (inRow (head .labels) _) _ (row-checks _ _ (λ before. label-rules (head .tasks)) (head .labels))
+    (λ labels of-labels.
+    then-checks _ _ (inRow (head .chains) _) _
+    (row-checks _ _ (λ before. chain-checks (tableOf head tasks labels [])) (head .chains)) (λ chains of-chains.
     then-checks _ _ fill _ (checks-nothing _) (λ filled free.
-    done-checks (λ whole. Sound (whole .table)) _
-    (table-sound head tasks labels chains some-task (row .0) (known .0) (row .1) (known .1)))))))
+    done-checks Told _ (record {
+      head = head;
+      tasks = tasks;
+      labels = labels;
+      chains = chains;
+      is = refl;
+      counts = counts;
+      of-tasks = of-tasks;
+      of-labels = of-labels;
+      of-chains = of-chains;
+    }))))))
 
-whole-checks : Checks (λ whole. Sound (whole .table)) wholeFields
+whole-told : Checks Told wholeFields
 unfolding wholeFields
-whole-checks =
-    then-checks _ _ allFields _ all-checks (λ whole sound.
-    then-checks _ _ (check _ 10 0) _ (checks-nothing _) (λ checked free.
-    done-checks (λ whole. Sound (whole .table)) whole sound))
+whole-told =
+    then-checks _ _ allFields _ all-told (λ whole told.
+    then-checks _ _ (check _ 10 0) _ (checks-nothing _) (λ checked free. done-checks Told whole told))
 
--- every accepted table
-pub accepted-sound : (image : List ℕ) (whole : Whole) → readImage image ≡ gives whole → Sound (whole .table)
+-- what the whole image tells of a table holds of every accepted table
+accepted-has : (P : Whole → Type 0) → Checks P wholeFields
+    → (image : List ℕ) (whole : Whole) → readImage image ≡ gives whole → P whole
 unfolding readImage
-accepted-sound image whole e = go (wholeFields image 0) (whole-checks image 0) e
+accepted-has P checks image whole e = go (wholeFields image 0) (checks image 0) e
   where
-    go : (outcome : Outcome (Taken Whole))
-        → ((taken : Taken Whole) → outcome ≡ gives taken → Sound (taken .value .table))
-        → askedOf outcome (λ taken. gives (taken .value)) ≡ gives whole → Sound (whole .table)
-    go (gives taken) sound e = subst (λ given. Sound (given .table)) (same-given e) (sound taken refl)
-    go (refuses number place) sound e = absurd (gives-no-refusal (sym e))
+    go : (outcome : Outcome (Taken Whole)) → ((taken : Taken Whole) → outcome ≡ gives taken → P (taken .value))
+        → askedOf outcome (λ taken. gives (taken .value)) ≡ gives whole → P whole
+    go (gives taken) has e = subst P (same-given e) (has taken refl)
+    go (refuses number place) has e = absurd (gives-no-refusal (sym e))
+
+pub accepted-told : (image : List ℕ) (whole : Whole) → readImage image ≡ gives whole → Told whole
+accepted-told = accepted-has _ whole-told
+
+pub accepted-sound : (image : List ℕ) (whole : Whole) → readImage image ≡ gives whole → Sound (whole .table)
+accepted-sound image whole e =
+    let told = accepted-told image whole e in
+    subst (λ w. Sound (w .table)) (told .is)
+    (table-sound (told .head) (told .tasks) (told .labels) (told .chains) (told .counts .tasks .0) (told .of-tasks .0)
+    (told .of-labels .0) (told .of-tasks .1) (told .of-labels .1))
 
 -- the hyperperiod of an accepted table is within its limit
-whole-within : Checks (λ whole. leb (hyperperiodOf (whole .table)) 1000000 ≡ true) wholeFields
+within-checks : Checks (λ whole. leb (hyperperiodOf (whole .table)) 1000000 ≡ true) wholeFields
 unfolding wholeFields
-whole-within =
+within-checks =
     then-checks _ _ allFields _ (checks-nothing _) (λ whole free.
     then-checks _ _ (check _ 10 0) _ (check-checks _ 10 0) (λ checked right.
     done-checks (λ whole. leb (hyperperiodOf (whole .table)) 1000000 ≡ true) whole right))
 
 pub accepted-within : (image : List ℕ) (whole : Whole) → readImage image ≡ gives whole
     → leb (hyperperiodOf (whole .table)) 1000000 ≡ true
-unfolding readImage
-accepted-within image whole e = go (wholeFields image 0) (whole-within image 0) e
-  where
-    go : (outcome : Outcome (Taken Whole))
-        → ((taken : Taken Whole) → outcome ≡ gives taken → leb (hyperperiodOf (taken .value .table)) 1000000 ≡ true)
-        → askedOf outcome (λ taken. gives (taken .value)) ≡ gives whole
-        → leb (hyperperiodOf (whole .table)) 1000000 ≡ true
-    go (gives taken) within e =
-        subst (λ given. leb (hyperperiodOf (given .table)) 1000000 ≡ true) (same-given e) (within taken refl)
-    go (refuses number place) within e = absurd (gives-no-refusal (sym e))
+accepted-within = accepted-has _ within-checks

@@ -6,7 +6,7 @@ use mathlib.Core.List.{List, [], _∷_, _++_, map}
 use native.Mathlib.Omega.{arith}
 use lib.ListN.{length, set, replicate, length-append}
 use Rattle.lists.specs.Lists.{padded}
-use Rattle.table.specs.Outcome.{gives, refuses}
+use Rattle.outcomes.specs.Outcome.{gives, refuses}
 use Rattle.table.specs.Reading.{inRow}
 use Rattle.table.specs.Refusals.{numberOf}
 use Rattle.table.specs.Table.{Rows}

@@ -1,16 +1,16 @@
 -- What is known of a value that was read: each field passed its check, one after the other, and each of a row did.
 -- Assumes nothing.
-use Prim.Native.Nat.{ℕ, zero, suc, _+_}
-use mathlib.Core.Bool.{Bool, true, false, cond}
+use Prim.Native.Nat.{ℕ, zero, suc, _+_, _<_, _^_}
+use mathlib.Core.Bool.{Bool, true, false}
 use mathlib.Core.Path.{_≡_, refl, sym, ap, _∙_, subst}
 use mathlib.Core.List.{List, [], _∷_, _++_}
 use native.Mathlib.Numerals.{add-one}
-use lib.Dec.{leb}
 use lib.ListN.{length, length-append}
-use Rattle.bits.specs.Bits.{bitCount, fieldAt}
-use Rattle.table.specs.Outcome.{Outcome, gives, refuses, askedOf}
+use Rattle.bits.proofs.Fields.{field-below}
+use Rattle.outcomes.specs.Outcome.{Outcome, gives, refuses, askedOf}
+use Rattle.table.proofs.FieldLaws.{taken-field}
 use Rattle.table.specs.Reading.{Taker, Taken, done, _then_, field, inRow, check}
-use Rattle.table.proofs.Refusals.{same-given, gives-no-refusal}
+use Rattle.outcomes.proofs.Outcomes.{same-given, gives-no-refusal}
 use Rattle.lists.proofs.All.{All, all-append}
 
 -- whatever value the taker gives has the property
@@ -37,21 +37,16 @@ then-checks P Q first rest of-first of-rest image at given e = go (first image a
 -- a field that was taken passed its check
 pub field-checks : (width number : ℕ) (right : ℕ → Bool)
     → Checks (λ value. right value ≡ true) (field width number right)
-unfolding field
 field-checks width number right image at given e =
-    go (leb (at + width) (bitCount image)) (right (fieldAt image at width)) refl e
-  where
-    value : ℕ
-    value = fieldAt image at width
+    let of-field = taken-field width number right at image given e in
+    subst (λ taken. right (taken .value) ≡ true) (of-field .is) (of-field .passed)
 
-    go : (b c : Bool) → right value ≡ c
-        → cond b (cond c (gives (record { value = value; next = at + width })) (refuses number at)) (refuses 1 at)
-        ≡ gives given
-        → right (given .value) ≡ true
-    go true true is e = ap (λ taken. right (taken .value)) (sym (same-given e)) ∙ is
-    go true false is e = absurd (gives-no-refusal (sym e))
-    go false true is e = absurd (gives-no-refusal (sym e))
-    go false false is e = absurd (gives-no-refusal (sym e))
+-- and has no more than its bits
+pub field-narrow : (width number : ℕ) (right : ℕ → Bool)
+    → Checks (λ value. value < 2 ^ width) (field width number right)
+field-narrow width number right image at given e =
+    subst (λ taken. taken .value < 2 ^ width) (taken-field width number right at image given e .is)
+    (field-below image at width)
 
 -- a check that was passed holds
 pub check-checks : (right : Bool) (number place : ℕ) → Checks (λ passed. right ≡ true) (check right number place)

@@ -1,7 +1,7 @@
--- What is known of a head, a task and a label that were read: the counts, the period, and that no reader is the writer.
--- Assumes nothing.
-use Prim.Native.Nat.{ℕ}
-use mathlib.Core.Bool.{Bool, true, false, not, _&&_, _||_}
+-- What is known of a head, a task and a label that were read: the rules of document 01 that their fields were checked
+-- by. Assumes nothing.
+use Prim.Native.Nat.{ℕ, _<_, _^_}
+use mathlib.Core.Bool.{Bool, true, false, not, _&&_, _||_, false≢true}
 use mathlib.Core.Path.{_≡_, refl, sym}
 use lib.Dec.{ltb, eqb}
 use borrow.Author.Tests.{ltb-true, not-true, eqb-false}
@@ -9,9 +9,9 @@ use Rattle.lists.proofs.Bools.{and-parts}
 use Rattle.lists.proofs.Lists.{someBelow-none-passes}
 use Rattle.table.specs.Reading.{field}
 use Rattle.table.specs.Table.{marks}
-use Rattle.table.specs.Image.{Head, Label, between, headFields, taskFields, rightReaders, labelFields}
+use Rattle.table.specs.Image.{Head, Task, Label, between, headFields, taskFields, rightReaders, labelFields}
 use Rattle.table.specs.Rules.{FromTo}
-use Rattle.table.proofs.Checks.{Checks, checks-nothing, done-checks, then-checks, field-checks}
+use Rattle.table.proofs.Checks.{Checks, checks-nothing, done-checks, then-checks, field-checks, field-narrow}
 use Rattle.table.proofs.Steps.{between-bounds}
 
 -- the counts of a head that was taken
@@ -36,35 +36,57 @@ head-counts =
       chains = between-bounds 0 16 chains k;
     }))))))
 
-pub task-period : (cores : ℕ) → Checks (λ task. FromTo 1 1000000 (task .period)) (taskFields cores)
+-- the rules of a task that was taken
+pub record TaskRules (cores : ℕ) (task : Task) : Type 0 where
+  pub core : task .core < cores
+  pub period : FromTo 1 1000000 (task .period)
+
+pub task-rules : (cores : ℕ) → Checks (TaskRules cores) (taskFields cores)
 unfolding taskFields
-task-period cores =
-    then-checks _ _ (field 3 4 _) _ (checks-nothing _) (λ core free.
+task-rules cores =
+    then-checks _ _ (field 3 4 _) _ (field-checks 3 4 (λ core. ltb core cores)) (λ core known.
     then-checks _ _ (field 20 5 _) _ (field-checks 20 5 (between 1 1000000)) (λ period right.
-    done-checks (λ task. FromTo 1 1000000 (task .period)) _ (between-bounds 1 1000000 period right)))
+    done-checks (TaskRules cores) _ (record {
+      core = ltb-true core cores known;
+      period = between-bounds 1 1000000 period right;
+    })))
 
--- a readers field does not mark the writer
-abbrev pub Others : Label → Type 0
-Others label = (i : ℕ) → marks (label .readers) i ≡ true → ¬ (i ≡ label .writer)
+-- every reader that a field marks is a task of the table and not the writer
+abbrev pub Marked : (tasks : ℕ) → Label → Type 0
+Marked tasks label = (i : ℕ) → marks (label .readers) i ≡ true → (i < tasks) × ¬ (i ≡ label .writer)
 
-right-others : (tasks writer readers : ℕ) → rightReaders tasks writer readers ≡ true
-    → Others (record { writer = writer; readers = readers })
+right-marked : (tasks writer readers : ℕ) → rightReaders tasks writer readers ≡ true
+    → Marked tasks (record { writer = writer; readers = readers })
 unfolding rightReaders marks
-right-others tasks writer readers right i marked =
+right-marked tasks writer readers right i marked =
     let inside = ltb-true i 32 (and-parts (ltb i 32) _ marked .0) in
     let passed = someBelow-none-passes 32 _ (not-true _ right) i inside in
-    eqb-false i writer (go (marks readers i) (ltb i tasks) (eqb i writer) marked passed)
+    let told = go (marks readers i) (ltb i tasks) (eqb i writer) marked passed in
+    (ltb-true i tasks (told .0), eqb-false i writer (told .1))
   where
-    go : (a b c : Bool) → a ≡ true → (a && (not b || c)) ≡ false → c ≡ false
-    go true true c marked passed = passed
-    go true false true marked passed = passed
-    go true false false marked passed = refl
-    go false b true marked passed = sym marked
-    go false b false marked passed = refl
+    go : (a b c : Bool) → a ≡ true → (a && (not b || c)) ≡ false → (b ≡ true) × (c ≡ false)
+    go true true c marked passed = (refl, passed)
+    go true false c marked passed = absurd (false≢true (sym passed))
+    go false b c marked passed = absurd (false≢true marked)
 
-pub label-others : (tasks : ℕ) → Checks Others (labelFields tasks)
+-- the rules of a label that was taken
+pub record LabelRules (tasks : ℕ) (label : Label) : Type 0 where
+  pub writer : label .writer < tasks
+  pub readers : label .readers < 2 ^ 32
+  pub marked : Marked tasks label
+
+pub label-rules : (tasks : ℕ) → Checks (LabelRules tasks) (labelFields tasks)
 unfolding labelFields
-label-others tasks =
-    then-checks _ _ (field 5 6 _) _ (checks-nothing _) (λ writer known.
-    then-checks _ _ (field 32 7 _) _ (field-checks 32 7 (rightReaders tasks writer)) (λ readers right.
-    done-checks Others _ (right-others tasks writer readers right)))
+label-rules tasks =
+    then-checks _ _ (field 5 6 _) _ (field-checks 5 6 (λ writer. ltb writer tasks)) (λ writer known.
+    then-checks (λ readers. (readers < 2 ^ 32) × (rightReaders tasks writer readers ≡ true)) _ (field 32 7 _) _
+    (λ image at given e. (
+      field-narrow 32 7 (rightReaders tasks writer) image at given e,
+      field-checks 32 7 (rightReaders tasks writer) image at given e,
+    ))
+    (λ readers both.
+    done-checks (LabelRules tasks) _ (record {
+      writer = ltb-true writer tasks known;
+      readers = both .0;
+      marked = right-marked tasks writer readers (both .1);
+    })))

@@ -8,7 +8,7 @@ use borrow.Author.Tests.{le-leb, lt-leb}
 use lib.Dec.{eqb}
 use lib.ListN.{length}
 use Rattle.bits.specs.Bits.{bitCount}
-use Rattle.table.specs.Outcome.{gives, refuses}
+use Rattle.outcomes.specs.Outcome.{gives, refuses}
 use Rattle.table.specs.Reading.{field, inRow, check}
 use Rattle.table.specs.Image.{fill}
 use Rattle.table.proofs.Rows.{row-more, row-refused}

@@ -7,8 +7,6 @@ pub mod Checks
 pub mod FieldLaws
 pub mod FieldRules
 pub mod Filling
-pub mod Largest
-pub mod LargestImage
 pub mod MeetsRules
 pub mod Numbers
 pub mod Readers

@@ -2,9 +2,9 @@
 use Prim.Native.Nat.{ℕ}
 use mathlib.Core.Path.{_≡_, refl, sym, ap, _∙_}
 use mathlib.Core.List.{List, [], _∷_}
-use native.Mathlib.Omega.{arith}
 use lib.ListN.{getD}
-use Rattle.table.specs.Outcome.{Outcome, gives, refuses, askedOf}
+use Rattle.outcomes.specs.Outcome.{Outcome, refuses}
+use Rattle.outcomes.proofs.Outcomes.{gives-no-refusal}
 use Rattle.table.specs.Refusals.{numberOf, saidOfImage}
 use Rattle.table.specs.declared.Refusal.{Refusal}
 use Rattle.table.specs.declared.Refusal.the-variants.{Ends, Version, Count, Core, Period, Writer, Reader, Chain}
@@ -42,21 +42,10 @@ refusal-of-number Unjoined = refl
 pub same-refusal : (a b : Refusal) → numberOf a ≡ numberOf b → a ≡ b
 same-refusal a b same = sym (refusal-of-number a) ∙ ap refusalOf same ∙ refusal-of-number b
 
--- what says the same refusal says the same number and place
-pub same-number : {A : Type 0} {m n p q : ℕ} → _≡_ {A = Outcome A} (refuses m p) (refuses n q) → (m ≡ n) × (p ≡ q)
-same-number e = (cc, cc)
-
 -- what is refused by one number at one place was refused by one refusal there
 pub same-refused : {A : Type 0} (a b : Refusal) {p q : ℕ}
     → _≡_ {A = Outcome A} (refuses (numberOf a) p) (refuses (numberOf b) q) → (a ≡ b) × (p ≡ q)
 same-refused a b e = (same-refusal a b cc, cc)
-
-pub same-given : {A : Type 0} {a b : A} → gives a ≡ gives b → a ≡ b
-same-given e = cc
-
--- an answer and a refusal never say the same
-pub gives-no-refusal : {A : Type 0} {a : A} {n p : ℕ} → gives a ≡ refuses n p → ⊥
-gives-no-refusal e = let z : _≡_ {A = ℕ} 0 1 = cc in omega arith
 
 -- two answers of an image that say the same are the same
 pub same-answer : (a b : Answer) → saidOfImage a ≡ saidOfImage b → a ≡ b
@@ -64,18 +53,6 @@ same-answer Accepted Accepted e = refl
 same-answer Accepted (Refused r p) e = absurd (gives-no-refusal e)
 same-answer (Refused r p) Accepted e = absurd (gives-no-refusal (sym e))
 same-answer (Refused r p) (Refused s q) e = let same = same-refused r s e in cc
-
--- a refused image hands its refusal on to whatever is asked of it
-pub refusal-handed-on : {A B : Type 0} (outcome : Outcome A) (question : A → Outcome B) {n p : ℕ}
-    → askedOf {B = Unit {0}} outcome (λ a. gives tt) ≡ refuses n p → askedOf outcome question ≡ refuses n p
-refusal-handed-on (gives a) question e = absurd (gives-no-refusal e)
-refusal-handed-on (refuses m q) question e = cc
-
--- what was accepted has something to give
-pub something-given : {A : Type 0} (outcome : Outcome A) → askedOf {B = Unit {0}} outcome (λ a. gives tt) ≡ gives tt
-    → (a : A) × (outcome ≡ gives a)
-something-given (gives a) e = (a, refl)
-something-given (refuses n p) e = absurd (gives-no-refusal (sym e))
 
 -- what reading an image shows is determined: the answer, each field of the table and each entry of the rows
 pub image-determined : (image : List ℕ) (a b : TableRead) (rows-a rows-b : Rows)

@@ -9,7 +9,7 @@ use native.Mathlib.Omega.{arith}
 use lib.ListN.{length, set, replicate, length-append, length-map}
 use lib.Seq.{set-at}
 use Rattle.lists.specs.Lists.{padded}
-use Rattle.table.specs.Outcome.{gives, refuses}
+use Rattle.outcomes.specs.Outcome.{gives, refuses}
 use Rattle.table.specs.Reading.{Taker, Taken, inRow}
 use Rattle.table.specs.Refusals.{numberOf}
 use Rattle.table.specs.Parts.{RowRead}
@@ -73,7 +73,8 @@ module _ {A : Type 0} (size step : ℕ) (one : Taker A) (f g : A → ℕ) (image
     pub held-first : first ≡ padded size 0 (map f values)
     pub held-second : second ≡ padded size 0 (map g values)
 
-  pub passed-none : Passed 0 (padded size 0 []) (padded size 0 [])
+module _ {A : Type 0} {size step : ℕ} {one : Taker A} {f g : A → ℕ} {image : List ℕ} {at : ℕ} where
+  pub passed-none : Passed size step one f g image at 0 (padded size 0 []) (padded size 0 [])
   unfolding inRow
   passed-none = record {
     values = [];
@@ -83,12 +84,12 @@ module _ {A : Type 0} (size step : ℕ) (one : Taker A) (f g : A → ℕ) (image
     held-second = refl;
   }
 
-  module _ {i : ℕ} {first second : List ℕ} (passed : Passed i first second) where
+  module _ {i : ℕ} {first second : List ℕ} (passed : Passed size step one f g image at i first second) where
     -- one more
-    pub passed-more : (x : A) → i < size → one image (at + step * i)
+    pub passed-more : {x : A} → i < size → one image (at + step * i)
         ≡ gives (record { value = x; next = at + step * i + step })
-        → Passed (i + 1) (set first i (f x)) (set second i (g x))
-    passed-more x room taken =
+        → Passed size step one f g image at (i + 1) (set first i (f x)) (set second i (g x))
+    passed-more {x} room taken =
         let next : at + step * i + step ≡ at + step * (i + 1) = rw (mul-add, mul-one, add-assoc) refl in
         record {
           values = passed .values ++ x ∷ [];
@@ -99,10 +100,10 @@ module _ {A : Type 0} (size step : ℕ) (one : Taker A) (f g : A → ℕ) (image
         }
 
     -- a refusal of the next one is the row's refusal
-    pub row-read-refused : (count : ℕ) (answer : Answer) (r : Refusal) (p : ℕ) → i < count → answer ≡ Refused r p
+    pub row-read-refused : {count : ℕ} {answer : Answer} {r : Refusal} {p : ℕ} → i < count → answer ≡ Refused r p
         → one image (at + step * i) ≡ refuses (numberOf r) p
         → RowRead size step one f g image at count answer first second
-    row-read-refused count answer r p more told refused = record {
+    row-read-refused {count = count} {r = r} {p = p} more told refused = record {
       values = passed .values;
       said = still-refused _ r told
           ∙ sym (row-refused (λ before. one) image at i count _ _ p more (passed .row) refused);
@@ -111,8 +112,8 @@ module _ {A : Type 0} (size step : ℕ) (one : Taker A) (f g : A → ℕ) (image
     }
 
     -- all were taken
-    pub row-read-whole : (count : ℕ) → i ≡ count → RowRead size step one f g image at count Accepted first second
-    row-read-whole count all = record {
+    pub row-read-whole : {count : ℕ} → i ≡ count → RowRead size step one f g image at count Accepted first second
+    row-read-whole all = record {
       values = passed .values;
       said = rw (← all) (sym (passed .row));
       held-first = passed .held-first;

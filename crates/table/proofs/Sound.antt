@@ -20,6 +20,7 @@ use Rattle.times.proofs.Hyperperiod.{period-divides-hyperperiod, hyperperiod-po
 use Rattle.table.specs.Table.{coreOf, periodOf, writerOf, marks, reads, hyperperiodOf}
 use Rattle.table.specs.Image.{Head, Task, Label, tableOf}
 use Rattle.table.specs.declared.Table.{Table}
+use Rattle.table.proofs.FieldRules.{TaskRules, LabelRules}
 use Rattle.lists.proofs.All.{All, all-append, all-replicate, all-within, all-at, all-map, all-also}
 
 pub record Sound (table : Table) : Type 0 where
@@ -32,7 +33,7 @@ pub record Sound (table : Table) : Type 0 where
   pub label-known : (l r : ℕ) → reads table l r ≡ true → l < table .labels
 
 -- a readers field marks only tasks below the count
-abbrev pub MarksBelow : ℕ → ℕ → Type 0
+abbrev MarksBelow : ℕ → ℕ → Type 0
 MarksBelow tasks readers = (i : ℕ) → marks readers i ≡ true → i < tasks
 
 -- a readers field of 0 marks no task
@@ -56,8 +57,8 @@ past-padding size entries i past =
 module _ (head : Head) (tasks : List Task) (labels : List Label) (chains : List (List ℕ))
     (some-task : 0 < head .tasks)
     (count-tasks : length tasks ≡ head .tasks) (count-labels : length labels ≡ head .labels)
-    (tasks-right : All (λ task. (task .core < head .cores) × (0 < task .period)) tasks)
-    (labels-right : All (λ label. (label .writer < head .tasks) × MarksBelow (head .tasks) (label .readers)) labels)
+    (tasks-right : All (TaskRules (head .cores)) tasks)
+    (labels-right : All (LabelRules (head .tasks)) labels)
   where
     -- an entry of any number that each entry of the labels has right, and 0 too
     label-entry : (P : ℕ → Type 0) (f : Label → ℕ) → All (λ label. P (f label)) labels → P 0
@@ -102,9 +103,9 @@ module _ (head : Head) (tasks : List Task) (labels : List Label) (chains : List 
     unfolding tableOf coreOf periodOf hyperperiodOf writerOf reads
     table-sound = record {
       core-known = task-entry (λ c. c < head .cores) (λ task. task .core)
-          (all-also _ _ (λ task both. both .0) tasks tasks-right);
+          (all-also _ _ (λ task rules. rules .core) tasks tasks-right);
       period-positive = task-entry (λ p. 0 < p) (λ task. task .period)
-          (all-also _ _ (λ task both. both .1) tasks tasks-right);
+          (all-also _ _ (λ task rules. rules .period .0) tasks tasks-right);
       period-divides = λ i known.
           let entries = padded 32 0 (map (λ task. task .period) tasks) in
           subst (λ p. p ∣ lcmOf (take (head .tasks) entries)) (getD-take (head .tasks) entries i 0 known)
@@ -115,11 +116,11 @@ module _ (head : Head) (tasks : List Task) (labels : List Label) (chains : List 
           let known : i < head .tasks = omega (arith, all-listed) in
           rw (getD-take (head .tasks) entries i 0 known)
           (task-entry (λ p. 0 < p) (λ task. task .period)
-          (all-also _ _ (λ task both. both .1) tasks tasks-right) i known));
+          (all-also _ _ (λ task rules. rules .period .0) tasks tasks-right) i known));
       writer-known = label-entry (λ w. w < head .tasks) (λ label. label .writer)
-          (all-also _ _ (λ label both. both .0) labels labels-right) some-task;
+          (all-also _ _ (λ label rules. rules .writer) labels labels-right) some-task;
       reader-known = label-entry (MarksBelow (head .tasks)) (λ label. label .readers)
-          (all-also _ _ (λ label both. both .1) labels labels-right)
+          (all-also _ _ (λ label rules i marked. rules .marked i marked .0) labels labels-right)
           (λ i marked. absurd (none-marked i marked));
       label-known = λ l r marked.
           by-cases (decLt l (head .labels)) (λ inside. inside) (λ past. absurd (no-reader-past l r marked past));

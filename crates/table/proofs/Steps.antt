@@ -1,6 +1,6 @@
 -- One step of a reader, by what a part of the code answered: the step was taken, or its refusal is handed on; and the
 -- tests of the code against the tests of the definitions. No contract cites this file. Assumes nothing.
-use Prim.Native.Nat.{ℕ, zero, suc, _≤_}
+use Prim.Native.Nat.{ℕ, zero, suc, _+_, _≤_}
 use mathlib.Core.Path.{_≡_, refl, sym, ap, _∙_, fun-ext}
 use mathlib.Core.Bool.{Bool, true, _&&_}
 use mathlib.Core.List.{List}
@@ -8,14 +8,15 @@ use native.Mathlib.Omega.{arith}
 use borrow.Author.Tests.{leb-true, le-leb, le-ltb, ne-eqb}
 use lib.Dec.{leb, ltb, eqb, leb·zero, leb·suc-suc}
 use Rattle.lists.proofs.Bools.{and-parts}
-use Rattle.table.specs.Outcome.{Outcome, gives, refuses, askedOf}
+use Rattle.outcomes.specs.Outcome.{Outcome, gives, refuses, askedOf}
 use Rattle.table.specs.Reading.{Taken, field}
-use Rattle.table.specs.Refusals.{numberOf, saidWith}
-use Rattle.table.specs.Parts.{inRange}
+use Rattle.table.specs.Refusals.{numberOf, saidWith, saidOfImage}
+use Rattle.table.specs.Parts.{got, inRange}
 use Rattle.table.specs.Image.{between}
 use Rattle.table.specs.declared.Answer.{Answer}
 use Rattle.table.specs.declared.Answer.the-variants.{Accepted, Refused}
 use Rattle.table.specs.declared.Refusal.{Refusal}
+use Rattle.table.specs.declared.parts.Got.{Got}
 
 -- what was accepted was taken
 pub taken : {A : Type 0} {answer : Answer} (a : A) {outcome : Outcome A}
@@ -60,10 +61,41 @@ pub said-of-more : {A B : Type 0} (answer : Answer) (a : A) (more : A → B) {ou
 said-of-more Accepted a more said = ap (λ outcome. askedOf outcome (λ x. gives (more x))) said
 said-of-more (Refused r p) a more said = ap (λ outcome. askedOf outcome (λ x. gives (more x))) said
 
+-- what comes of a step that follows an answer: the answer's refusal, where it is one
+abbrev After : {A : Type 0} → Answer → Outcome A → Outcome A
+After earlier outcome = askedOf (saidOfImage earlier) (λ accepted. outcome)
+
+after-both : {A B : Type 0} (earlier : Answer) (outcome : Outcome A) (rest : A → Outcome B)
+    → After earlier (askedOf outcome rest) ≡ askedOf (After earlier outcome) rest
+after-both Accepted outcome rest = refl
+after-both (Refused r p) outcome rest = refl
+
+after-said : {A B : Type 0} (answer : Answer) (a : A) (rest : A → Outcome B)
+    → askedOf (saidWith answer a) rest ≡ After answer (rest a)
+after-said Accepted a rest = refl
+after-said (Refused r p) a rest = refl
+
 -- what was said of a field under one test is said of it under the same test, written otherwise
 pub by-test : (w number : ℕ) (image : List ℕ) (at : ℕ) {test test′ : ℕ → Bool} {outcome : Outcome (Taken ℕ)}
     → test ≡ test′ → outcome ≡ field w number test image at → outcome ≡ field w number test′ image at
 by-test w number image at same said = said ∙ ap (λ test. field w number test image at) same
+
+-- a field was read after an answer: what follows the field follows the field's own answer
+pub field-after : {B : Type 0} (earlier : Answer) (g : Got) (w number : ℕ) (image : List ℕ) (at : ℕ)
+    {test test′ : ℕ → Bool} (rest : Taken ℕ → Outcome B)
+    → test ≡ test′ → got g (at + w) ≡ After earlier (field w number test image at)
+    → After earlier (askedOf (field w number test′ image at) rest)
+    ≡ After (g .answer) (rest (record { value = g .value; next = at + w }))
+field-after earlier g w number image at rest same said =
+    after-both earlier _ rest
+    ∙ ap (λ outcome. askedOf outcome rest)
+    (ap (λ test. After earlier (field w number test image at)) (sym same) ∙ sym said)
+    ∙ after-said (g .answer) _ rest
+
+-- the answer of the last field is the answer of all
+pub last-after : {A : Type 0} (answer : Answer) (a : A) → After answer (gives a) ≡ saidWith answer a
+last-after Accepted a = refl
+last-after (Refused r p) a = refl
 
 -- a value that passes the test of a range lies in it
 pub between-bounds : (least most v : ℕ) → between least most v ≡ true → (least ≤ v) × (v ≤ most)

@@ -1,27 +1,29 @@
--- The parts of an image put together: a refused part refuses the image; the bounds of a head's counts. No contract
--- cites this file. Assumes nothing.
-use Prim.Native.Nat.{ℕ, _≤_}
+-- The parts of an image put together: a refused part refuses the image. No contract cites this file. Assumes nothing.
+use Prim.Native.Nat.{ℕ, _+_, _*_}
 use mathlib.Core.Path.{_≡_, ap}
-use mathlib.Core.List.{List}
+use mathlib.Core.List.{List, []}
 use native.Mathlib.Omega.{arith}
-use Rattle.table.specs.Outcome.{refuses}
-use Rattle.table.specs.Reading.{field}
+use Rattle.lists.specs.Lists.{padded}
+use Rattle.outcomes.specs.Outcome.{gives, refuses}
 use Rattle.table.specs.Refusals.{numberOf}
-use Rattle.table.specs.Image.{Head, between, headFields, allFields}
-use Rattle.table.specs.Parts.{BodyRead}
+use Rattle.table.specs.Image.{Head, headFields, tableOf, allFields}
+use Rattle.table.specs.Parts.{headRead, TasksTaken, LabelsTaken, BodyRead}
 use Rattle.table.specs.declared.Answer.{Answer}
 use Rattle.table.specs.declared.Answer.the-variants.{Accepted, Refused}
 use Rattle.table.specs.declared.Refusal.{Refusal}
 use Rattle.table.specs.declared.TableRead.{TableRead}
-use Rattle.table.proofs.Checks.{Checks, checks-nothing, done-checks, then-checks, field-checks}
-use Rattle.table.proofs.Steps.{between-bounds}
+use Rattle.table.specs.declared.parts.HeadRead.{HeadRead}
+use Rattle.table.specs.declared.parts.TasksRead.{TasksRead}
+use Rattle.table.specs.declared.parts.LabelsRead.{LabelsRead}
+use Rattle.table.proofs.FieldRules.{Counts, head-counts}
+use Rattle.table.proofs.Steps.{taken, not-taken}
 
 -- no answer is both
-pub not-both-answers : {answer : Answer} {r : Refusal} {p : ℕ} → answer ≡ Accepted → answer ≡ Refused r p → ⊥
+not-both-answers : {answer : Answer} {r : Refusal} {p : ℕ} → answer ≡ Accepted → answer ≡ Refused r p → ⊥
 not-both-answers accepted refused = let never : _≡_ {A = ℕ} 0 1 = cc in omega arith
 
 -- an answer's refusal is one
-pub one-refusal : {answer : Answer} {r s : Refusal} {p q : ℕ} → answer ≡ Refused r p → answer ≡ Refused s q
+one-refusal : {answer : Answer} {r s : Refusal} {p q : ℕ} → answer ≡ Refused r p → answer ≡ Refused s q
     → _≡_ {A = ℕ} (numberOf r) (numberOf s) × (p ≡ q)
 one-refusal {r = r} {s = s} first second = (ap numberOf (let same : r ≡ s = cc in same), cc)
 
@@ -33,24 +35,66 @@ body-refused image read r p told refused = record {
   refused = λ s q other. let same = one-refusal told other in rw (← same .0, ← same .1) refused;
 }
 
--- the counts of a head that was taken
-pub record Few (head : Head) : Type 0 where
-  pub cores : head .cores ≤ 8
-  pub tasks : head .tasks ≤ 32
-  pub labels : head .labels ≤ 64
-  pub chains : head .chains ≤ 16
+-- the head that was read
+abbrev pub headOf : HeadRead → Head
+headOf r = record { cores = r .cores; tasks = r .tasks; labels = r .labels; chains = r .chains }
 
-pub head-few : Checks Few headFields
-unfolding headFields
-head-few =
-    then-checks _ _ (field 4 2 _) _ (checks-nothing _) (λ version free.
-    then-checks _ _ (field 4 3 _) _ (field-checks 4 3 (between 1 8)) (λ cores c.
-    then-checks _ _ (field 6 3 _) _ (field-checks 6 3 (between 1 32)) (λ tasks t.
-    then-checks _ _ (field 7 3 _) _ (field-checks 7 3 (between 0 64)) (λ labels l.
-    then-checks _ _ (field 5 3 _) _ (field-checks 5 3 (between 0 16)) (λ chains k.
-    done-checks Few _ (record {
-      cores = between-bounds 1 8 cores c .1;
-      tasks = between-bounds 1 32 tasks t .1;
-      labels = between-bounds 0 64 labels l .1;
-      chains = between-bounds 0 16 chains k .1;
-    }))))))
+-- Head, tasks and labels in turn, by what was answered of each.
+module _ (image : List ℕ) (head : HeadRead) (of-head : headRead head 26 ≡ headFields image 0) where
+  pub head-refused : (r : Refusal) {p : ℕ} → head .answer ≡ Refused r p → allFields image 0 ≡ refuses (numberOf r) p
+  unfolding allFields
+  head-refused r told = rw (not-taken _ r told of-head)
+
+  module _ (head-accepted : head .answer ≡ Accepted) where
+    head-taken : headFields image 0 ≡ gives (record { value = headOf head; next = 26 })
+    head-taken = taken _ head-accepted of-head
+
+    pub counts-read : Counts (headOf head)
+    counts-read = head-counts _ _ _ head-taken
+
+    module _ (tasks : TasksRead) (of-tasks : TasksTaken image 26 (head .cores) (head .tasks) tasks) where
+      pub tasks-refused : (r : Refusal) {p : ℕ} → tasks .answer ≡ Refused r p
+          → allFields image 0 ≡ refuses (numberOf r) p
+      unfolding allFields
+      tasks-refused r told = rw (head-taken, not-taken _ r told (of-tasks .said))
+
+      -- the labels' answer is that of the body
+      pub body-read : (labels : LabelsRead) → tasks .answer ≡ Accepted
+          → LabelsTaken image (26 + 23 * head .tasks) (head .tasks) (head .labels) labels
+          → BodyRead image (record {
+            answer = labels .answer;
+            table = record {
+              cores = head .cores;
+              tasks = head .tasks;
+              labels = head .labels;
+              chains = head .chains;
+              core = tasks .core;
+              period = tasks .period;
+              writer = labels .writer;
+              readers = labels .readers;
+              length = padded 16 0 [];
+            };
+          })
+      unfolding allFields tableOf
+      body-read labels tasks-accepted of-labels =
+          let tasks-taken = taken _ tasks-accepted (of-tasks .said) in
+          record {
+            accepted = λ labels-accepted. record {
+              head = headOf head;
+              tasks = of-tasks .values;
+              labels = of-labels .values;
+              of-head = head-taken;
+              of-tasks = tasks-taken;
+              of-labels = taken _ labels-accepted (of-labels .said);
+              held = rw (
+                of-tasks .held-first,
+                of-tasks .held-second,
+                of-labels .held-first,
+                of-labels .held-second,
+              );
+              few-tasks = counts-read .tasks .1;
+              few-labels = counts-read .labels .1;
+              few-chains = counts-read .chains .1;
+            };
+            refused = λ r p told. rw (head-taken, tasks-taken, not-taken _ r told (of-labels .said));
+          }

@@ -1,27 +1,29 @@
 -- The whole image from its parts: refused by a part, refused by its hyperperiod, or read. No contract cites this file.
 -- Assumes nothing.
 use Prim.Native.Nat.{ℕ, _+_, _*_, _<_, _≤_}
-use mathlib.Core.Path.{_≡_, sym, ap, _∙_}
+use mathlib.Core.Path.{_≡_, refl, sym, ap, _∙_}
 use mathlib.Core.List.{List, map}
 use borrow.Author.Tests.{le-leb, lt-leb}
 use lib.ListN.{length}
 use Rattle.lists.specs.Lists.{padded}
-use Rattle.table.specs.Outcome.{gives, refuses, askedOf}
+use Rattle.outcomes.specs.Outcome.{gives, refuses, askedOf}
 use Rattle.table.specs.Reading.{Taken, inRow, check}
-use Rattle.table.specs.Refusals.{numberOf}
+use Rattle.table.specs.Refusals.{numberOf, saidOfImage}
 use Rattle.table.specs.Table.{Rows, hyperperiodOf}
 use Rattle.table.specs.Image.{Whole, tableOf, rowsOf, chainFields, fill, allFields, wholeFields, readImage}
 use Rattle.table.specs.Shown.{nothing, acceptedOr, shownOf}
-use Rattle.table.specs.Parts.{Body, AllRead}
+use Rattle.table.specs.Parts.{Body, ChainsTaken, FieldsRead, AllRead}
 use Rattle.table.specs.declared.Answer.{Answer}
 use Rattle.table.specs.declared.Answer.the-variants.{Accepted, Refused}
 use Rattle.table.specs.declared.Refusal.{Refusal}
 use Rattle.table.specs.declared.Table.{Table}
 use Rattle.table.specs.declared.TableRead.{TableRead}
-use Rattle.table.proofs.Steps.{still-refused}
+use Rattle.table.specs.declared.parts.ChainsRead.{ChainsRead}
+use Rattle.outcomes.proofs.Outcomes.{refusal-handed-on, something-given}
+use Rattle.table.proofs.Steps.{taken, not-taken, still-refused}
 
 -- a table, with these lengths of chains
-abbrev pub lengthened : Table → List ℕ → Table
+abbrev lengthened : Table → List ℕ → Table
 lengthened table lengths = record {
   cores = table .cores;
   tasks = table .tasks;
@@ -51,7 +53,7 @@ module _ (image : List ℕ) where
   field-refuses-whole refused = rw refused
 
   -- after head, tasks and labels come the chains and the fill
-  pub after-body : (table : Table) (body : Body image table)
+  after-body : (table : Table) (body : Body image table)
       → allFields image 0
       ≡ askedOf (inRow (table .chains) (λ before. chainFields table) image
       (26 + 23 * table .tasks + 37 * table .labels))
@@ -67,12 +69,44 @@ module _ (image : List ℕ) where
   after-body table body = rw (body .held, body .of-head, body .of-tasks, body .of-labels)
 
   -- the table of a body, with the lengths of its chains
-  pub with-lengths : (table : Table) (body : Body image table) (chains : List (List ℕ)) (lengths : List ℕ)
+  with-lengths : (table : Table) (body : Body image table) (chains : List (List ℕ)) (lengths : List ℕ)
       → lengths ≡ padded 16 0 (map (λ chain. length chain) chains)
       → tableOf (body .head) (body .tasks) (body .labels) chains
       ≡ lengthened table lengths
   unfolding tableOf
   with-lengths table body chains lengths held = rw (body .held, held)
+
+  -- a part that is refused refuses the fields
+  pub fields-refused : (read : TableRead) (rows : Rows) (r : Refusal) {p : ℕ} → read .answer ≡ Refused r p
+      → allFields image 0 ≡ refuses (numberOf r) p → FieldsRead image read rows
+  fields-refused read rows r told refused = record { next = 0; said = still-refused _ r told ∙ sym refused }
+
+  -- The chains after a body, and then the fill.
+  module _ {table : Table} (body : Body image table) {chains : ChainsRead} {rows : Rows}
+      (read : ChainsTaken image (26 + 23 * table .tasks + 37 * table .labels) table (table .chains) chains rows) where
+    pub chains-refused : (r : Refusal) {p : ℕ} → chains .answer ≡ Refused r p
+        → allFields image 0 ≡ refuses (numberOf r) p
+    chains-refused r told = after-body table body ∙ rw (not-taken _ r told (read .said))
+
+    -- the fill was taken
+    all-filled : (filled : Taken (Unit {0})) → chains .answer ≡ Accepted → fill image (chains .next) ≡ gives filled
+        → FieldsRead image (record { answer = Accepted; table = lengthened table (chains .length) }) rows
+    all-filled filled told is = record {
+      next = filled .next;
+      said = rw (read .held, ← with-lengths table body (read .values) (chains .length) (read .lengths))
+          (sym (after-body table body ∙ rw (taken _ told (read .said), is)));
+    }
+
+    -- the answer of the fill is that of all fields
+    pub fields-filled : (answer : Answer) → chains .answer ≡ Accepted
+        → saidOfImage answer ≡ askedOf (fill image (chains .next)) (λ filled. gives tt)
+        → FieldsRead image (record { answer = answer; table = lengthened table (chains .length) }) rows
+    fields-filled Accepted told said =
+        let filled = something-given (fill image (chains .next)) (sym said) in
+        all-filled (filled .0) told (filled .1)
+    fields-filled (Refused r p) told said =
+        fields-refused _ rows r refl (after-body table body
+        ∙ rw (taken _ told (read .said)) (refusal-handed-on (fill image (chains .next)) _ (sym said)))
 
   module _ (taken : Taken Whole) (all : allFields image 0 ≡ gives taken) where
     -- H above 1,000,000

@@ -8,7 +8,7 @@ use lib.Dec.{eqb, leb, ltb}
 use lib.ListN.{length, replicate}
 use Rattle.lists.specs.Lists.{someBelow, padded}
 use Rattle.bits.specs.Bits.{bitCount}
-use Rattle.table.specs.Outcome.{Outcome, gives, askedOf}
+use Rattle.outcomes.specs.Outcome.{Outcome, gives, askedOf}
 use Rattle.table.specs.Reading.{Taker, done, _then_, field, inRow, check}
 use Rattle.table.specs.Table.{Rows, marks, joins, hyperperiodOf}
 use Rattle.table.specs.declared.Table.{Table}

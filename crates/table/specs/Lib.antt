@@ -1,6 +1,5 @@
 -- Definitions of this crate.
 pub mod Image
-pub mod Outcome
 pub mod Parts
 pub mod Reading
 pub mod Refusals

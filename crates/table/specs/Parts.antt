@@ -7,7 +7,7 @@ use mathlib.Core.Bool.{Bool, _&&_}
 use lib.Dec.{leb, ltb}
 use lib.ListN.{length}
 use Rattle.lists.specs.Lists.{padded}
-use Rattle.table.specs.Outcome.{Outcome, gives, refuses}
+use Rattle.outcomes.specs.Outcome.{Outcome, gives, refuses}
 use Rattle.table.specs.Reading.{Taker, Taken, field, inRow}
 use Rattle.table.specs.Refusals.{numberOf, saidWith}
 use Rattle.table.specs.Table.{Rows}
@@ -124,6 +124,12 @@ pub record BodyRead (image : List ℕ) (r : TableRead) : Type 0 where
   pub accepted : r .answer ≡ Accepted → Body image (r .table)
   pub refused : (refusal : Refusal) (place : ℕ) → r .answer ≡ Refused refusal place
       → allFields image 0 ≡ refuses (numberOf refusal) place
+
+-- all fields and the fill: the table and the rows, with the bit after them, or the image's refusal
+pub record FieldsRead (image : List ℕ) (r : TableRead) (rows : Rows) : Type 0 where
+  pub next : ℕ
+  pub said : saidWith (r .answer) (record { value = record { table = r .table; rows = rows }; next = next })
+      ≡ allFields image 0
 
 -- the whole image: its table and rows, or its refusal and a table with nothing in it
 pub record AllRead (image : List ℕ) (r : TableRead) (rows : Rows) : Type 0 where

@@ -4,9 +4,8 @@
 use Prim.Native.Nat.{ℕ, zero, suc, _+_}
 use mathlib.Core.Bool.{Bool, cond}
 use mathlib.Core.List.{List, [], _∷_, _++_}
-use lib.Dec.{leb}
-use Rattle.bits.specs.Bits.{bitCount, fieldAt}
-use Rattle.table.specs.Outcome.{Outcome, gives, refuses, askedOf}
+use Rattle.bits.specs.Found.{foundAt}
+use Rattle.outcomes.specs.Outcome.{Outcome, gives, refuses, askedOf}
 
 -- a value that was taken, and the next bit
 pub record Taken (A : Type 0) : Type 0 where
@@ -25,15 +24,12 @@ infixl 20 _then_
 abbrev pub _then_ : {A B : Type 0} → Taker A → (A → Taker B) → Taker B
 _then_ first rest image at = askedOf (first image at) (λ taken. rest (taken .value) image (taken .next))
 
--- the next field, of `width` bits: refused by 1 where the image ends inside or before it, by `number` where the value
--- read is not right, both at the start of the field
+-- the next field, of `width` bits, "read whole and then checked": refused by 1 where the image ends inside or before
+-- it, by `number` where the value read is not right, both at the start of the field
 unfoldable pub field : (width number : ℕ) → (ℕ → Bool) → Taker ℕ
 field width number right image at =
-    cond (leb (at + width) (bitCount image))
-    (cond (right (fieldAt image at width))
-    (gives (record { value = fieldAt image at width; next = at + width }))
-    (refuses number at))
-    (refuses 1 at)
+    askedOf (foundAt image at width) (λ value.
+    cond (right value) (gives (record { value = value; next = at + width })) (refuses number at))
 
 -- so many in a row; each is handed those before it
 unfoldable pub inRow : {A : Type 0} → ℕ → (List A → Taker A) → Taker (List A)

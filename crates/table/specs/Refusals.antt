@@ -1,7 +1,7 @@
 -- The numbers that say no: of each refusal its number in document 01, and what the image's answer says by them.
 -- Assumes nothing.
 use Prim.Native.Nat.{ℕ}
-use Rattle.table.specs.Outcome.{Outcome, gives, refuses}
+use Rattle.outcomes.specs.Outcome.{Outcome, gives, refuses}
 use Rattle.table.specs.declared.Refusal.{Refusal}
 use Rattle.table.specs.declared.Refusal.the-variants.{Ends, Version, Count, Core, Period, Writer, Reader, Chain}
 use Rattle.table.specs.declared.Refusal.the-variants.{Fill, Hyperperiod, Room, Asked, Unjoined}

@@ -1,11 +1,11 @@
 -- What document 01 asks of a table, rule by rule: Table image, and of Numbers that say no the rows 3 to 8 and 10.
 -- Nothing here speaks of how an image is read. Assumes nothing.
-use Prim.Native.Nat.{ℕ, suc, _≤_, _<_}
+use Prim.Native.Nat.{ℕ, suc, _≤_, _<_, _^_}
 use mathlib.Core.Bool.{true}
 use mathlib.Core.Path.{_≡_}
 use mathlib.Core.List.{List}
 use lib.ListN.{length, getD}
-use Rattle.table.specs.Table.{coreOf, periodOf, writerOf, reads, joins, chainOf, hyperperiodOf}
+use Rattle.table.specs.Table.{coreOf, periodOf, writerOf, readersOf, reads, joins, chainOf, hyperperiodOf}
 use Rattle.table.specs.Image.{Whole}
 use Rattle.table.specs.declared.Table.{Table}
 
@@ -35,6 +35,8 @@ pub record MeetsRules (whole : Whole) : Type 0 where
   pub period : (i : ℕ) → i < whole .table .tasks → FromTo 1 1000000 (periodOf (whole .table) i)
   -- 6: "writer is no task of the table"
   pub writer : (l : ℕ) → l < whole .table .labels → writerOf (whole .table) l < whole .table .tasks
+  -- "readers 32"
+  pub readers : (l : ℕ) → l < whole .table .labels → readersOf (whole .table) l < 2 ^ 32
   -- 7: "a reader is no task of the table, or is the writer"
   pub reader : (l i : ℕ) → l < whole .table .labels → reads (whole .table) l i ≡ true
       → (i < whole .table .tasks) × ¬ (i ≡ writerOf (whole .table) l)

@@ -3,7 +3,7 @@
 use Prim.Native.Nat.{ℕ}
 use mathlib.Core.Path.{_≡_}
 use mathlib.Core.List.{List, []}
-use Rattle.table.specs.Outcome.{Outcome, gives, refuses, askedOf}
+use Rattle.outcomes.specs.Outcome.{Outcome, gives, refuses, askedOf}
 use Rattle.table.specs.Image.{Whole, tableOf, rowsOf, readImage}
 use Rattle.table.specs.Refusals.{saidOfImage}
 use Rattle.table.specs.declared.TableRead.{TableRead}

@@ -36,9 +36,13 @@ writerOf table l = getD (table .writer) l 0
 unfoldable pub marks : ℕ → ℕ → Bool
 marks readers i = ltb i 32 && eqb (readers / 2 ^ (31 - i) % 2) 1
 
+-- the readers field of label l
+abbrev pub readersOf : Table → ℕ → ℕ
+readersOf table l = getD (table .readers) l 0
+
 -- task i reads label l
 unfoldable pub reads : Table → ℕ → ℕ → Bool
-reads table l i = marks (getD (table .readers) l 0) i
+reads table l i = marks (readersOf table l) i
 
 -- some label goes from task w to task r
 unfoldable pub joins : Table → ℕ → ℕ → Bool

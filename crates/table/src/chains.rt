@@ -16,33 +16,31 @@ use crate::parts::StepsRead;
 
 // The task numbers of a chain, from bit `at` on, with the search for each step's label.
 fn read_steps(image: &[u8], at: usize, table: Table, length: usize) -> StepsRead
-    requires { ⌜ (at ≤ 65535) × (table .tasks ≤ 32) × (table .labels ≤ 64) × (1 ≤ length) × (length ≤ 8) ⌝ }
+    requires { ⌜ (at ≤ 65535) × (table .tasks ≤ 32) × (table .labels ≤ 64) × (length ≤ 8) ⌝ }
     ensures { λ r. ⌜ StepsTaken (now (image .entry)) at table length r ⌝ }
 {
     let tasks = table.tasks as u32;
     let labels = table.labels;
     let mut row = [0u32; 8];
-    let first = ranged(image, at, 5, 0, tasks, Refusal::Chain);
-    let answer = first.answer;
-    let Answer::Accepted = answer else {
-        return StepsRead { answer, row };
-    };
-    row[0] = first.value;
-    let mut earlier = first.value as u64;
-    let mut j: usize = 1;
+    let mut last: u64 = 0;
+    let mut j: usize = 0;
     'steps: while j < length {
-        let task = ranged(image, at + 5 * j, 5, 0, tasks, Refusal::Chain);
+        let place = at + 5 * j;
+        let task = ranged(image, place, 5, 0, tasks, Refusal::Chain);
         let answer = task.answer;
         let Answer::Accepted = answer else {
             return StepsRead { answer, row };
         };
-        let next = task.value as u64;
+        let earlier = last;
+        last = task.value as u64;
+        row[j] = task.value;
+        j += 1;
+        if j == 1 {
+            continue 'steps; // the first task ends no step
+        }
         let mut l: usize = 0;
         while l < labels {
-            if goes(table.writer[l], table.readers[l], earlier, next) {
-                row[j] = task.value;
-                earlier = next;
-                j += 1;
+            if goes(table.writer[l], table.readers[l], earlier, last) {
                 continue 'steps;
             }
             l += 1;
@@ -50,7 +48,7 @@ fn read_steps(image: &[u8], at: usize, table: Table, length: usize) -> StepsRead
         return StepsRead {
             answer: Answer::Refused {
                 refusal: Refusal::Chain,
-                place: at + 5 * j,
+                place,
             },
             row,
         };

@@ -1,7 +1,7 @@
 // "Zero bits fill the last byte; nothing follows" (document 01, Table image).
 ghost use mathlib.Core.Path.{_≡_};
 ghost use Prim.Native.Nat.{_≤_};
-ghost use Rattle.table.specs.Outcome.{gives, askedOf};
+ghost use Rattle.outcomes.specs.Outcome.{gives, askedOf};
 ghost use Rattle.table.specs.Refusals.{saidOfImage};
 ghost use Rattle.table.specs.Image.{fill};
 use crate::Answer;

@@ -3,7 +3,7 @@ ghost use mathlib.Core.Path.{_≡_};
 ghost use mathlib.Core.List.{[]};
 ghost use Rattle.table.specs.Image.{rowsOf};
 ghost use Rattle.table.specs.Shown.{nothing};
-ghost use Rattle.table.specs.Parts.{BodyRead, AllRead};
+ghost use Rattle.table.specs.Parts.{BodyRead, FieldsRead, AllRead};
 use crate::Answer;
 use crate::Refusal;
 use crate::Table;
@@ -51,15 +51,12 @@ fn read_body(image: &[u8]) -> TableRead
     };
     let labels = read_labels(image, 26 + 23 * head.tasks, head.tasks as u32, head.labels);
     let of_labels = labels.answer;
-    let Answer::Accepted = of_labels else {
-        return no_table(of_labels);
-    };
     let core = tasks.core;
     let period = tasks.period;
     let writer = labels.writer;
     let readers = labels.readers;
     TableRead {
-        answer: Answer::Accepted,
+        answer: of_labels,
         table: Table {
             cores: head.cores,
             tasks: head.tasks,
@@ -74,15 +71,15 @@ fn read_body(image: &[u8]) -> TableRead
     }
 }
 
-// The whole image; the chains' task numbers go into the rows, which hold nothing at first.
-pub(crate) fn read_all(image: &[u8], rows: &mut [[u32; 8]; 16]) -> TableRead
+// All fields and the fill: the table, and the chains' task numbers in the rows, which hold nothing at first.
+fn read_fields(image: &[u8], rows: &mut [[u32; 8]; 16]) -> TableRead
     requires { ⌜ now rows ≡ rowsOf [] ⌝ }
-    ensures { λ r. ⌜ AllRead (now (image .entry)) r (now (rows .exit)) ⌝ }
+    ensures { λ r. ⌜ FieldsRead (now (image .entry)) r (now (rows .exit)) ⌝ }
 {
     let body = read_body(image);
     let of_body = body.answer;
     let Answer::Accepted = of_body else {
-        return no_table(of_body);
+        return body;
     };
     let table = body.table;
     let chains = read_chains(
@@ -94,12 +91,32 @@ pub(crate) fn read_all(image: &[u8], rows: &mut [[u32; 8]; 16]) -> TableRead
     );
     let of_chains = chains.answer;
     let Answer::Accepted = of_chains else {
-        return no_table(of_chains);
+        return TableRead {
+            answer: of_chains,
+            table,
+        };
     };
     let of_fill = read_fill(image, chains.next);
-    let Answer::Accepted = of_fill else {
-        return no_table(of_fill);
+    let length = chains.length;
+    let mut whole = table;
+    whole.length = length;
+    TableRead {
+        answer: of_fill,
+        table: whole,
+    }
+}
+
+// The whole image, with the check of its hyperperiod. Of a refused image the table holds nothing.
+pub(crate) fn read_all(image: &[u8], rows: &mut [[u32; 8]; 16]) -> TableRead
+    requires { ⌜ now rows ≡ rowsOf [] ⌝ }
+    ensures { λ r. ⌜ AllRead (now (image .entry)) r (now (rows .exit)) ⌝ }
+{
+    let fields = read_fields(image, rows);
+    let of_fields = fields.answer;
+    let Answer::Accepted = of_fields else {
+        return no_table(of_fields);
     };
+    let table = fields.table;
     let period = table.period;
     let round = times::rounds::hyperperiod(period, table.tasks);
     let Round::Within(_) = round else {
@@ -108,11 +125,8 @@ pub(crate) fn read_all(image: &[u8], rows: &mut [[u32; 8]; 16]) -> TableRead
             place: 0,
         });
     };
-    let length = chains.length;
-    let mut whole = table;
-    whole.length = length;
     TableRead {
         answer: Answer::Accepted,
-        table: whole,
+        table,
     }
 }

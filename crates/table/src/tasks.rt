@@ -6,6 +6,7 @@ ghost use Rattle.table.specs.Parts.{taskRead, TasksTaken};
 use crate::Answer;
 use crate::Refusal;
 use crate::fields::ranged;
+use crate::fields::ranged_after;
 use crate::parts::TaskRead;
 use crate::parts::TasksRead;
 
@@ -15,18 +16,10 @@ fn read_task(image: &[u8], at: usize, cores: u32) -> TaskRead
     ensures { λ r. ⌜ taskRead r (at + 23) ≡ taskFields cores (now (image .entry)) at ⌝ }
 {
     let core = ranged(image, at, 3, 0, cores, Refusal::Core);
-    let answer = core.answer;
-    let Answer::Accepted = answer else {
-        return TaskRead {
-            answer,
-            core: 0,
-            period: 0,
-        };
-    };
-    let period = ranged(image, at + 3, 20, 1, 1000001, Refusal::Period);
-    let last = period.answer;
+    let period = ranged_after(core, image, at + 3, 20, 1, 1000001, Refusal::Period);
+    let answer = period.answer;
     TaskRead {
-        answer: last,
+        answer,
         core: core.value,
         period: period.value,
     }

@@ -1,24 +1,25 @@
 -- What is proved, under the user's three demands, each statement proved by citing. A newcomer reads the definitions of
--- document 01 (specs/ of lists, bits, times, table, copies, ages, questions, runs, cases), and then this file. Of a
--- function, `statement M` is the text that the toolchain makes of its contract: on the language's machine, with any
--- ghost state of type M, a call ends, does nothing undefined, and returns an r of which the `ensures` holds; it is
--- quoted here. Assumes nothing.
+-- document 01 (specs/ of lists, outcomes, bits, times, table, writing, copies, ages, questions, runs, cases), and then
+-- this file. Of a function, `statement M` is the text that the toolchain makes of its contract: on the language's
+-- machine, with any ghost state of type M, a call ends, does nothing undefined, and returns an r of which the `ensures`
+-- holds; it is quoted here. Assumes nothing.
 use Prim.Native.Nat.{ℕ, _≤_, _<_, _∣_}
 use mathlib.Core.Path.{_≡_}
 use mathlib.Core.Bool.{true}
 use mathlib.Core.List.{List}
-use lib.ListN.{length}
-use Rattle.table.specs.Outcome.{gives, refuses}
+use lib.ListN.{length, getD}
+use Rattle.outcomes.specs.Outcome.{gives, refuses}
+use Rattle.bits.specs.Bits.{bitCount}
 use Rattle.table.specs.Image.{Whole, readImage}
 use Rattle.table.specs.Shown.{answerOf}
-use Rattle.table.specs.Rules.{MeetsRules}
-use Rattle.table.proofs.LargestImage.{largest-image}
-use Rattle.table.proofs.MeetsRules.{accepted-meets-rules}
-use Rattle.table.proofs.Numbers.{image-number}
+use Rattle.table.proofs.Numbers.{image-refusal}
 use Rattle.table.proofs.read_table.Statement as read-table
 use Rattle.table.proofs.read_table.Met as read-table-met
 use Rattle.table.proofs.read_rows.Statement as read-rows
 use Rattle.table.proofs.read_rows.Met as read-rows-met
+use Rattle.writing.specs.Written.{ImageOfRight}
+use Rattle.writing.proofs.LargestImage.{largest-image}
+use Rattle.writing.proofs.AcceptedExactly.{only-right-accepted, all-right-accepted}
 use Rattle.times.specs.Hyperperiod.{lcmOf}
 use Rattle.times.specs.Points.{publishing, reading}
 use Rattle.times.specs.Releases.{Timing, isRelease}
@@ -39,6 +40,9 @@ use Rattle.runs.specs.Runs.{Turns, valuesRead}
 use Rattle.runs.proofs.NoJobCanTell as runs
 use Rattle.cases.specs.Starred.{AllHold, starred}
 use Rattle.cases.proofs.Starred.{starred-cases-hold}
+use Rattle.cases.specs.Kinds as further
+use Rattle.cases.specs.Further as table
+use Rattle.cases.proofs.Further.{further-cases-hold}
 
 -- DEMAND 1. Any string of bytes gets a table or one numbered refusal with its place, and the reader always ends.
 
@@ -53,10 +57,11 @@ reader-answers = read-table-met.met
 pub rows-answered : {M : Type 1} → read-rows.statement M
 rows-answered = read-rows-met.met
 
--- A refusal has a number from 1 to 10; an accepted image has at most 480 bytes.
+-- A refusal has a number from 1 to 10, and its place is a bit of the image or the end of it; an accepted image has at
+-- most 480 bytes.
 pub one-numbered-refusal : (image : List ℕ) (number place : ℕ) → readImage image ≡ refuses number place
-    → (1 ≤ number) × (number ≤ 10)
-one-numbered-refusal = image-number
+    → (1 ≤ number) × (number ≤ 10) × (place ≤ bitCount image)
+one-numbered-refusal = image-refusal
 
 pub no-larger-image : (image : List ℕ) (whole : Whole) → readImage image ≡ gives whole → length image ≤ 480
 no-larger-image = largest-image
@@ -72,9 +77,13 @@ same-refusal = same-refusal-whichever-question
 
 -- DEMAND 2. Right is the published arithmetic: points, copy frames over the hyperperiod, ages.
 
--- The starred cases of document 01 hold of the definitions.
+-- The starred cases of document 01 hold of the definitions, and so do further ones: the cases without a star, one for
+-- each number and place of a refusal, whole texts and listings.
 pub starred-cases : AllHold starred
 starred-cases = starred-cases-hold
+
+pub further-cases : further.AllHold table.further
+further-cases = further-cases-hold
 
 -- The hyperperiod is the least common multiple: every period divides it, and it is the least number above 0 that all
 -- divide.
@@ -120,11 +129,16 @@ pub listing-once : (image : List ℕ) (core : ℕ) (buffer : List ℕ) (a b : Li
     → (a ≡ b) × (after-a ≡ after-b)
 listing-once = listing-determined
 
--- An accepted table meets the rules of document 01 (crates/table/specs/Rules.antt). That an image whose fields meet
--- them, each in its turn, is accepted is what the definition `readImage` says.
-pub accepted-table-meets-the-rules
-    : (image : List ℕ) (whole : Whole) → readImage image ≡ gives whole → MeetsRules whole
-accepted-table-meets-the-rules = accepted-meets-rules
+-- A table is accepted exactly when it meets the rules of document 01 (crates/table/specs/Rules.antt). Bytes that are
+-- accepted are, byte for byte, the image of the table that they give (crates/writing/specs/Written.antt), which meets
+-- the rules and holds 0 past its counts; and the image of every such table is accepted, and gives that table.
+pub only-right-tables-are-accepted : (image : List ℕ) (whole : Whole) → ((k : ℕ) → getD image k 0 < 256)
+    → readImage image ≡ gives whole → ImageOfRight image whole
+only-right-tables-are-accepted = only-right-accepted
+
+pub every-right-table-is-accepted : (image : List ℕ) (whole : Whole)
+    → ImageOfRight image whole → readImage image ≡ gives whole
+every-right-table-is-accepted = all-right-accepted
 
 -- DEMAND 3. Run an accepted table with only the listed copies, or copying every label at every release: every job
 -- reads the same values, however long the run. Jobs are arbitrary: each turn of a task is any function of the tick and

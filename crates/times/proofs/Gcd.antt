@@ -75,9 +75,6 @@ pub common-divisor-divides-gcd : (d a b : ℕ) → d ∣ a → d ∣ b → d ∣
 common-divisor-divides-gcd d a b da db =
     rw (one-mul (gcd a b)) at (divides-multiple-of-gcd d 1 a b (rw (one-mul a) da) (rw (one-mul b) db))
 
--- it is above 0 where one of the two is
+-- it is above 0 where the first of the two is
 pub gcd-positive-left : (a b : ℕ) → 0 < a → 0 < gcd a b
 gcd-positive-left a b h = pos-of-dvd-of-pos (gcd-divides a b .0) h
-
-pub gcd-positive-right : (a b : ℕ) → 0 < b → 0 < gcd a b
-gcd-positive-right a b h = pos-of-dvd-of-pos (gcd-divides a b .1) h

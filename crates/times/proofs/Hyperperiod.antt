@@ -72,11 +72,6 @@ lcmFrom-positive running (p ∷ ps) h each =
     (lcm-positive running p h (each-head (λ k. 0 < k) p ps each))
     (each-tail (λ k. 0 < k) p ps each)
 
--- so it only grows
-pub lcmFrom-grows : (running : ℕ) (ps : List ℕ) → 0 < running → Each (λ p. 0 < p) ps → running ≤ lcmFrom running ps
-lcmFrom-grows running ps h each =
-    le-of-dvd (lcmFrom-positive running ps h each) (running-divides-lcmFrom running ps)
-
 -- every period divides the hyperperiod
 pub period-divides-hyperperiod : (periods : List ℕ) → Each (λ p. p ∣ lcmOf periods) periods
 unfolding lcmOf

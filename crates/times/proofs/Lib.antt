@@ -1,4 +1,5 @@
 -- Laws of the crate, for the crates above and for the functions here.
+pub mod Determined
 pub mod Gcd
 pub mod Hyperperiod
 pub mod Lcm

@@ -12,45 +12,33 @@ use native.Mathlib.Omega.{arith}
 use lib.ListN.{length, getD, take}
 use lib.Seq.{take-all, take-suc}
 use borrow.Author.Tests.{le-leb, lt-leb}
+use Rattle.outcomes.specs.Outcome.{gives, refuses}
+use Rattle.outcomes.proofs.Outcomes.{same-given, gives-no-refusal}
 use Rattle.times.specs.Hyperperiod.{lcm, lcmFrom, lcmOf}
 use Rattle.times.specs.Rounds.{withinLimit}
-use Rattle.times.specs.declared.rounds.Round.the-variants.{Within, Above}
 use Rattle.times.proofs.Hyperperiod.{lcmFrom-append}
 use Rattle.times.proofs.Lcm.{left-divides-lcm, lcm-positive, lcm-zero-right}
 
 -- H where it is at most 1,000,000
-pub round-within : (H : ℕ) → H ≤ 1000000 → withinLimit H ≡ Within H
+pub round-within : (H : ℕ) → H ≤ 1000000 → withinLimit H ≡ gives H
 unfolding withinLimit
-round-within H h = ap (λ (b : Bool). cond b (Within H) Above) (le-leb H 1000000 h)
+round-within H h = ap (λ (b : Bool). cond b (gives H) (refuses 10 0)) (le-leb H 1000000 h)
 
 -- above where it is larger
-pub round-above : (H : ℕ) → 1000000 < H → withinLimit H ≡ Above
+pub round-above : (H : ℕ) → 1000000 < H → withinLimit H ≡ refuses 10 0
 unfolding withinLimit
-round-above H h = ap (λ (b : Bool). cond b (Within H) Above) (lt-leb H 1000000 h)
+round-above H h = ap (λ (b : Bool). cond b (gives H) (refuses 10 0)) (lt-leb H 1000000 h)
 
 -- and in no other case
-pub within-round : (H h : ℕ) → withinLimit H ≡ Within h → (H ≡ h) × (H ≤ 1000000)
-within-round H h e = by-cases (decLe H 1000000) small large
-  where
-    small : H ≤ 1000000 → (H ≡ h) × (H ≤ 1000000)
-    small s =
-        let this : Within H ≡ Within h = sym (round-within H s) ∙ e in
-        (cc, s)
+pub within-round : (H h : ℕ) → withinLimit H ≡ gives h → (H ≡ h) × (H ≤ 1000000)
+within-round H h e =
+    by-cases (decLe H 1000000) (λ small. (same-given (sym (round-within H small) ∙ e), small))
+    (λ large. absurd (gives-no-refusal (sym e ∙ round-above H (omega arith))))
 
-    large : ¬ (H ≤ 1000000) → (H ≡ h) × (H ≤ 1000000)
-    large s =
-        let this : Above ≡ Within h = sym (round-above H (omega arith)) ∙ e in
-        let never : _≡_ {A = ℕ} 0 1 = cc in
-        absurd (omega arith)
-
-pub above-round : (H : ℕ) → withinLimit H ≡ Above → 1000000 < H
-above-round H e = by-cases (decLe H 1000000) small (λ large. omega arith)
-  where
-    small : H ≤ 1000000 → 1000000 < H
-    small s =
-        let this : Within H ≡ Above = sym (round-within H s) ∙ e in
-        let never : _≡_ {A = ℕ} 0 1 = cc in
-        absurd (omega arith)
+pub above-round : (H : ℕ) {n p : ℕ} → withinLimit H ≡ refuses n p → 1000000 < H
+above-round H e =
+    by-cases (decLe H 1000000) (λ small. absurd (gives-no-refusal (sym (round-within H small) ∙ e)))
+    (λ large. omega arith)
 
 -- a least common multiple with a number above 0 is no smaller than the other
 lcm-grows : (a b : ℕ) → 0 < a → 0 < b → a ≤ lcm a b

@@ -12,12 +12,12 @@ use Rattle.lists.proofs.Bools.{same-test, and-parts, and-of-parts, or-part, or-
 use Rattle.times.specs.Releases.{Timing, isRelease}
 use Rattle.times.proofs.ReleasesWithin.{releasedFrom, releasedTo}
 
--- a release of the writer, which has the larger or equal period, or after which the reader is released before it is
+-- a release t of the writer, where the writer has the larger or equal period or the reader has a release in [t, t + Tw)
 abbrev pub publishingTest : Timing → Timing → ℕ → Bool
 publishingTest writer reader t =
     isRelease writer t && (leb (reader .period) (writer .period) || releasedFrom reader t (writer .period))
 
--- a release of the reader, which has the larger or equal period, or before which the writer is released after it was
+-- a release t of the reader, where the reader has the larger or equal period or the writer has a release in (t − Tr, t]
 abbrev pub readingTest : Timing → Timing → ℕ → Bool
 readingTest writer reader t =
     isRelease reader t && (leb (writer .period) (reader .period) || releasedTo writer t (reader .period))

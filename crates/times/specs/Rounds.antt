@@ -1,10 +1,16 @@
--- What the program answers for the hyperperiod H. Document 01, Table image: "at most 1,000,000". Assumes nothing.
+-- The hyperperiod H within its limit, or refusal 10. Document 01, Table image: "at most 1,000,000". Assumes nothing.
 use Prim.Native.Nat.{ℕ}
 use mathlib.Core.Bool.{cond}
 use lib.Dec.{leb}
+use Rattle.outcomes.specs.Outcome.{Outcome, gives, refuses}
 use Rattle.times.specs.declared.rounds.Round.{Round}
 use Rattle.times.specs.declared.rounds.Round.the-variants.{Within, Above}
 
--- H where it is at most 1,000,000, and otherwise that it is above, however large it is
-unfoldable pub withinLimit : ℕ → Round
-withinLimit H = cond (leb H 1000000) (Within H) Above
+-- 10: "H above 1,000,000", at 0, however large it is
+unfoldable pub withinLimit : ℕ → Outcome ℕ
+withinLimit H = cond (leb H 1000000) (gives H) (refuses 10 0)
+
+-- what the answer says of the hyperperiod
+abbrev pub saidOfRound : Round → Outcome ℕ
+saidOfRound (Within H) = gives H
+saidOfRound Above = refuses 10 0

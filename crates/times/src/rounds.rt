@@ -5,7 +5,7 @@ ghost use mathlib.Core.Path.{_≡_};
 ghost use Prim.Native.Nat.{min};
 ghost use lib.ListN.{take};
 ghost use Rattle.times.specs.Hyperperiod.{lcmOf};
-ghost use Rattle.times.specs.Rounds.{withinLimit};
+ghost use Rattle.times.specs.Rounds.{withinLimit, saidOfRound};
 
 // The hyperperiod where it is at most 1,000,000, and otherwise that it is above.
 pub enum Round {
@@ -23,7 +23,7 @@ fn counted(tasks: usize) -> usize
 // The hyperperiod of the first `tasks` periods. The running value stays at 1,000,001 once it is larger, since the least
 // common multiple with a period above 0 only grows, and with a period of 0 it is 0.
 pub fn hyperperiod(period: [u32; 32], tasks: usize) -> Round
-    ensures { λ r. ⌜ r ≡ withinLimit (lcmOf (take tasks period)) ⌝ }
+    ensures { λ r. ⌜ saidOfRound r ≡ withinLimit (lcmOf (take tasks period)) ⌝ }
 {
     let count = counted(tasks);
     let mut running: u32 = 1;

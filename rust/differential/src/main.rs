@@ -1,6 +1,7 @@
 //! The differential test: `differential [COUNT [SEED]]` asks about at least COUNT images. Ends with
 //! status 0 where the proved code and the independent program say the same of each, and every kind
-//! of image and every number occurred.
+//! of image, every number and every length of a valid image occurred; with status 2, and nothing
+//! asked, where the arguments are not numbers or COUNT is too small for that.
 
 #![forbid(unsafe_code)]
 
@@ -8,7 +9,7 @@ use std::ops::ControlFlow;
 use std::process::ExitCode;
 use std::time::Instant;
 
-use differential::run::run;
+use differential::run::{run, LEAST};
 use differential::said::{by_independent, by_proved_code};
 use differential::tally::{report, Tally};
 
@@ -27,6 +28,10 @@ fn main() -> ExitCode {
             return ExitCode::from(2);
         }
     };
+    if count < LEAST {
+        eprintln!("COUNT is {count}, but has to be at least {LEAST} for everything to occur");
+        return ExitCode::from(2);
+    }
     let begun = Instant::now();
     let mut tally = Tally::default();
     let _ = run(seed, count, &mut |kind, image, question| {

@@ -12,6 +12,10 @@ use crate::kind::{Kind, Visit};
 use crate::question::{every_pair, Question};
 use crate::rounds::round;
 
+/// The fewest images of a run in which everything can be expected to occur: those before the random
+/// rounds, 95,747 for any seed, and a few thousand of the rounds.
+pub const LEAST: u64 = 100_000;
+
 /// Visits at least so many images, unless the visitor breaks.
 pub fn run(seed: u64, least: u64, visit: &mut Visit) -> ControlFlow<()> {
     let visited = Cell::new(0);

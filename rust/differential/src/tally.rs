@@ -33,8 +33,14 @@ pub struct Tally {
 
 const SHOWN: usize = 5;
 
-/// A valid image has 7 to 480 bytes, and any number of them but 8, 10 and 13.
-const LENGTHS: usize = 471;
+/// The lengths that a valid image can have, in bytes. The head has 26 bits, each task 23, each label
+/// 37; a chain has 14 to 44 and needs two tasks and a label. So the smallest images have 49 bits (one
+/// task), 72 (two), 86 (one and a label), 95 (three), 109 (two and a label), 118 (four), and then 123
+/// and more: none has 57 to 64, 73 to 80 or 97 to 104 bits, which would fill 8, 10 or 13 bytes. The
+/// largest has 3,834 bits.
+fn possible_lengths() -> BTreeSet<usize> {
+    (7..=480).filter(|length| ![8, 10, 13].contains(length)).collect()
+}
 
 /// The largest number that an image alone can give, and those that points can give beyond.
 const OF_IMAGES: usize = 10;
@@ -83,16 +89,33 @@ impl Tally {
         missing.extend(of_read.map(|number| format!("read: number {number}")));
         let of_points = (0..=OF_IMAGES).chain(OF_POINTS).filter(|&number| points[number] == 0);
         missing.extend(of_points.map(|number| format!("points: number {number}")));
-        if self.lengths.len() != LENGTHS || self.lengths.last() != Some(&480) {
-            missing.push("of some length that a valid image can have".to_string());
+        let of_length = &possible_lengths() - &self.lengths;
+        if !of_length.is_empty() {
+            missing.push(accepted_with(&of_length));
         }
         missing
     }
 
-    /// All is well: everything occurred and nothing differs.
-    pub fn passed(&self) -> bool {
-        self.differing == 0 && self.missing().is_empty()
+    /// What cannot be and did occur.
+    pub fn impossible(&self) -> Vec<String> {
+        let of_length = &self.lengths - &possible_lengths();
+        if of_length.is_empty() {
+            Vec::new()
+        } else {
+            vec![accepted_with(&of_length)]
+        }
     }
+
+    /// All is well: everything occurred that can, nothing else, and nothing differs.
+    pub fn passed(&self) -> bool {
+        self.differing == 0 && self.missing().is_empty() && self.impossible().is_empty()
+    }
+}
+
+/// Accepted images of each of these lengths, in words.
+fn accepted_with(lengths: &BTreeSet<usize>) -> String {
+    let bytes: Vec<String> = lengths.iter().map(usize::to_string).collect();
+    format!("accepted images of {} bytes", bytes.join(", "))
 }
 
 /// The lines that the program prints.
@@ -109,6 +132,9 @@ pub fn report(tally: &Tally) -> Result<String, std::fmt::Error> {
     writeln!(text, "{:>10} different lengths of accepted images", tally.lengths.len())?;
     for what in tally.missing() {
         writeln!(text, "did not occur: {what}")?;
+    }
+    for what in tally.impossible() {
+        writeln!(text, "occurred and cannot: {what}")?;
     }
     for Difference { kind, image, question, asked, expected } in &tally.differences {
         let hex: Vec<String> = image.iter().map(|byte| format!("{byte:02x}")).collect();

@@ -11,7 +11,7 @@ pub struct Refusal {
 }
 
 /// A number of 0 says that the question is answered.
-fn refused(number: u32, place: u64) -> Result<(), Refusal> {
+fn unless_refused(number: u32, place: u64) -> Result<(), Refusal> {
     match number {
         0 => Ok(()),
         number => Err(Refusal { number, place }),
@@ -56,13 +56,13 @@ extern "C" {
 pub fn read(image: &[u8]) -> Result<(), Refusal> {
     // SAFETY: a slice, as above.
     let answer = unsafe { liskobran_read(image.as_ptr(), image.len()) };
-    refused(answer.number, answer.place)
+    unless_refused(answer.number, answer.place)
 }
 
 /// The publishing point P(n) and the reading point Q(n) of two tasks of the image's table.
 pub fn points(image: &[u8], writer: u64, reader: u64, n: u64) -> Result<Points, Refusal> {
     // SAFETY: a slice, as above; any numbers may be asked.
     let answer = unsafe { liskobran_points(image.as_ptr(), image.len(), writer, reader, n) };
-    refused(answer.number, answer.place)?;
+    unless_refused(answer.number, answer.place)?;
     Ok(Points { publishing: answer.publishing, reading: answer.reading })
 }

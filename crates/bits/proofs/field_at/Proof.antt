@@ -4,7 +4,7 @@ use borrow.Author.Needs.{needs}
 use mathlib.Core.Path.{ap, _∙_}
 use native.Mathlib.Nat.{lt-of-lt-of-le, mod-lt}
 use lib.Pow.{pow-pos, pow-mono}
-use Rattle.bits.specs.declared.Found.the-variants.{Value}
+use Rattle.outcomes.specs.Outcome.{gives}
 use Rattle.bits.proofs.Reached.{found-ends, found-value, found-cut}
 use Rattle.bits.proofs.field_at.Statement.{statement}
 use Rattle.bits.proofs.field_at.Tie as tie
@@ -53,7 +53,7 @@ cast-t15 c =
 returns-2 : tie.Need-returns-2
 returns-2 c =
     rw (← c .before .before .before .capped .ensures, c .before .bytes-at .ensures, c .power .ensures)
-    (ap Value (found-cut _ _ _) ∙ found-value _ _ _ (omega arith))
+    (ap gives (found-cut _ _ _) ∙ found-value _ _ _ (omega arith))
 
 pub field-at-spec : {M : Type 1} → statement M
 field-at-spec =

@@ -1,8 +1,10 @@
 -- `printing::hyperperiod` meets its contract. Assumes nothing.
 use mathlib.Core.Path.{sym, _∙_}
 use borrow.Author.Needs.{needs}
+use Rattle.times.specs.Rounds.{withinLimit}
+use Rattle.table.specs.Table.{hyperperiodOf}
 use Rattle.questions.proofs.Asked.{refused-image, accepted-image}
-use Rattle.printing.specs.Rounds.{hyperperiod, hyperperiodWithin}
+use Rattle.printing.specs.Rounds.{hyperperiod}
 use Rattle.printing.proofs.AcceptedRound.{round-of-image}
 use Rattle.printing.proofs.hyperperiod.Statement.{statement}
 use Rattle.printing.proofs.hyperperiod.Tie as tie
@@ -23,7 +25,8 @@ returns : tie.Need-returns
 returns c =
     let read = c .before .before .before .before .read-table in
     c .round-of .ensures
-    ∙ sym (accepted-image _ _ (read .ensures) (c .before .before .enum-told .given .1) hyperperiodWithin)
+    ∙ sym (accepted-image _ _ (read .ensures) (c .before .before .enum-told .given .1)
+    (λ table. withinLimit (hyperperiodOf table)))
     ∙ round-of-image _
 
 returns-2 : tie.Need-returns-2

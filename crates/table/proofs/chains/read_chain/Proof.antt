@@ -6,7 +6,7 @@ use mathlib.Core.List.{[]}
 use native.Mathlib.Omega.{arith}
 use borrow.Author.Needs.{needs}
 use Rattle.lists.specs.Lists.{padded}
-use Rattle.table.specs.Outcome.{gives}
+use Rattle.outcomes.specs.Outcome.{gives}
 use Rattle.table.specs.Reading.{field}
 use Rattle.table.specs.Parts.{got}
 use Rattle.table.specs.Image.{between, chainFields}
@@ -61,7 +61,7 @@ read-steps-requires : tie.Need-read-steps-requires
 read-steps-requires c κs =
     let bounds = length-bounds (c .before) in
     let start = c .before .before .before .before .before in
-    (omega arith, start .pre .1, start .pre .2, omega arith, bounds .1)
+    (omega arith, start .pre .1, start .pre .2, bounds .1)
 
 returns-2 : tie.Need-returns-2
 unfolding chainFields

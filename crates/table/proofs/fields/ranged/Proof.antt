@@ -2,7 +2,6 @@
 -- Assumes nothing.
 use borrow.Author.Needs.{needs}
 use borrow.Author.Tests.{le-leb, lt-leb, le-ltb, lt-ltb}
-use mathlib.Core.Path.{sym, _∙_}
 use Rattle.table.proofs.FieldLaws.{field-ends, field-right, field-wrong}
 use Rattle.table.proofs.fields.ranged.Statement.{statement}
 use Rattle.table.proofs.fields.ranged.Tie as tie
@@ -17,24 +16,23 @@ enum-told : tie.Need-enum-told
 enum-told c = search needs
 
 returns : tie.Need-returns
-returns c = field-ends _ _ _ _ _ (sym (c .enum-told .given .1) ∙ c .before .before .field-at .ensures)
+returns c = field-ends _ _ _ _ _ _ (c .before .before .field-at .ensures) (c .enum-told .given .1)
 
 returns-2 : tie.Need-returns-2
 returns-2 c =
-    field-right _ _ _ _ _ _
-    (sym (c .before .before .before .found .given .1) ∙ c .before .before .before .before .before .field-at .ensures)
+    field-right _ _ _ _ _ _ (c .before .before .before .before .before .field-at .ensures)
+    _ (c .before .before .before .found .given .1)
     (rw (le-leb _ _ (c .before .if1 .taken), lt-ltb _ _ (c .if2 .taken)))
 
 returns-3 : tie.Need-returns-3
 returns-3 c =
-    field-wrong _ _ _ _ _ _
-    (sym (c .before .before .before .found .given .1) ∙ c .before .before .before .before .before .field-at .ensures)
+    field-wrong _ _ _ _ _ _ (c .before .before .before .before .before .field-at .ensures)
+    _ (c .before .before .before .found .given .1)
     (rw (le-leb _ _ (c .before .if1 .taken), le-ltb _ _ (c .if2 .left)))
 
 returns-4 : tie.Need-returns-4
 returns-4 c =
-    field-wrong _ _ _ _ _ _
-    (sym (c .before .before .found .given .1) ∙ c .before .before .before .before .field-at .ensures)
+    field-wrong _ _ _ _ _ _ (c .before .before .before .before .field-at .ensures) _ (c .before .before .found .given .1)
     (rw (lt-leb _ _ (c .if1 .left)))
 
 pub ranged-spec : {M : Type 1} → statement M

@@ -6,7 +6,7 @@ use native.Mathlib.Omega.{arith}
 use borrow.Author.Needs.{needs}
 use borrow.Author.Tests.{ltb-true}
 use lib.Dec.{ltb}
-use Rattle.table.specs.Outcome.{gives}
+use Rattle.outcomes.specs.Outcome.{gives}
 use Rattle.table.specs.Reading.{field}
 use Rattle.table.specs.Parts.{got}
 use Rattle.table.specs.Image.{labelFields}
@@ -63,7 +63,7 @@ unfolding labelFields
 returns-2 c =
     rw (
       writer-taken (c .before .before .before),
-      ← field-ends 32 7 _ _ _ (sym (c .enum-told3 .given .1) ∙ c .before .before .field-at .ensures),
+      ← field-ends 32 7 _ _ _ _ (c .before .before .field-at .ensures) (c .enum-told3 .given .1),
     )
 
 right-readers-requires : tie.Need-right-readers-requires
@@ -83,9 +83,8 @@ returns-3 c =
     rw (
       next,
       writer-taken (c .before .before .before .before .before .before),
-      ← field-right 32 7 _ _ _ _
-          (sym (c .before .before .before .found .given .1)
-          ∙ c .before .before .before .before .before .field-at .ensures)
+      ← field-right 32 7 _ _ _ _ (c .before .before .before .before .before .field-at .ensures)
+          _ (c .before .before .before .found .given .1)
           (sym (c .before .right-readers .ensures) ∙ c .if1 .taken),
     )
 
@@ -94,9 +93,8 @@ unfolding labelFields
 returns-4 c =
     rw (
       writer-taken (c .before .before .before .before .before .before),
-      ← field-wrong 32 7 _ _ _ _
-          (sym (c .before .before .before .found .given .1)
-          ∙ c .before .before .before .before .before .field-at .ensures)
+      ← field-wrong 32 7 _ _ _ _ (c .before .before .before .before .before .field-at .ensures)
+          _ (c .before .before .before .found .given .1)
           (sym (c .before .right-readers .ensures) ∙ c .if1 .left),
     )
 

@@ -1,0 +1,1 @@
+// What is said to a question: definitions (specs/) and laws (proofs/), no code.

@@ -1,0 +1,1 @@
+// The image of a table: definitions (specs/) and laws (proofs/). No code stands here yet.
