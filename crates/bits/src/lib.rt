@@ -1,6 +1,6 @@
 // Fields of a string of bytes (document 01, Table image): `width` bits from bit `at`, most significant bit first.
 ghost use mathlib.Core.Path.{_≡_};
-ghost use Prim.Native.Nat.{ℕ, _+_, _-_, _*_, _≤_, _<_, _^_, min};
+ghost use Prim.Native.Nat.{_+_, _-_, _*_, _≤_, _<_, _^_, min};
 ghost use lib.ListN.{length};
 ghost use Rattle.bits.specs.Bits.{fieldAt};
 ghost use Rattle.bits.specs.Found.{foundAt, saidOfFound};

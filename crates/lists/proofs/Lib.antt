@@ -2,6 +2,7 @@
 pub mod All
 pub mod Bools
 pub mod Each
+pub mod Last
 pub mod Lists
 pub mod Padded
 pub mod SomeOf

@@ -11,6 +11,11 @@ unfoldable pub someBelow : ℕ → (ℕ → Bool) → Bool
 someBelow zero test = false
 someBelow (suc n) test = someBelow n test || test n
 
+-- the last number below the bound that passes the test, plus one; 0 where none passes
+unfoldable pub lastBelow : ℕ → (ℕ → Bool) → ℕ
+lastBelow zero test = 0
+lastBelow (suc n) test = cond (test n) (suc n) (lastBelow n test)
+
 -- at least one of a list passes the test
 unfoldable pub someOf : {A : Type 0} → (A → Bool) → List A → Bool
 someOf test [] = false

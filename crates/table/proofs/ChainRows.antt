@@ -64,23 +64,23 @@ module _ (image : List ℕ) (at : ℕ) (table : Table) where
     -- the next chain is refused
     pub chains-refused : (count : ℕ) (answer : Answer) (r : Refusal) (p : ℕ) → k < count → answer ≡ Refused r p
         → chainFields table image next ≡ refuses (numberOf r) p
-        → ChainsTaken image at table count (record { answer = answer; length = lengths; next = next }) rows
+        → ChainsTaken image at table count (record { answer = answer; next = next }) lengths rows
     chains-refused count answer r p more told refused = record {
       values = passed .values;
       said = still-refused _ r told
           ∙ sym (row-refused (λ before. chainFields table) image at k count _ _ p more (passed .taken-row) refused);
       near = omega (arith, passed .near);
-      lengths = passed .lengths-held;
+      lengths-held = passed .lengths-held;
       held = passed .rows-held;
     }
 
     -- all were taken
     pub chains-whole : (count : ℕ) → k ≡ count
-        → ChainsTaken image at table count (record { answer = Accepted; length = lengths; next = next }) rows
+        → ChainsTaken image at table count (record { answer = Accepted; next = next }) lengths rows
     chains-whole count all = record {
       values = passed .values;
       said = rw (← all) (sym (passed .taken-row));
       near = omega (arith, passed .near);
-      lengths = passed .lengths-held;
+      lengths-held = passed .lengths-held;
       held = passed .rows-held;
     }

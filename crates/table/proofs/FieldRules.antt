@@ -90,3 +90,10 @@ label-rules tasks =
       readers = both .0;
       marked = right-marked tasks writer readers (both .1);
     })))
+
+-- what stands for a task or a label past the last one
+abbrev pub no-task : Task
+no-task = record { core = 0; period = 0 }
+
+abbrev pub no-label : Label
+no-label = record { writer = 0; readers = 0 }

@@ -7,12 +7,15 @@ pub mod Checks
 pub mod FieldLaws
 pub mod FieldRules
 pub mod Filling
+pub mod LabelSearch
+pub mod Linking
 pub mod MeetsRules
 pub mod Numbers
 pub mod Readers
 pub mod Refusals
 pub mod Rows
 pub mod Sound
+pub mod StepSearch
 pub mod Steps
 pub mod Stricter
 pub mod Whole

@@ -14,7 +14,7 @@ use Rattle.table.specs.Table.{coreOf, periodOf, writerOf, readersOf, rea
 use Rattle.table.specs.Image.{Head, Task, Label, Whole, tableOf, rowsOf, readImage}
 use Rattle.table.specs.Rules.{ChainMeets, MeetsRules}
 use Rattle.table.proofs.Accepted.{accepted-told, accepted-within}
-use Rattle.table.proofs.FieldRules.{Counts, TaskRules, LabelRules}
+use Rattle.table.proofs.FieldRules.{Counts, TaskRules, LabelRules, no-task, no-label}
 
 -- the task numbers of a chain, as they were read
 pub chain-at : (head : Head) (tasks : List Task) (labels : List Label) (chains : List (List ℕ)) (k : ℕ)
@@ -33,13 +33,6 @@ same-chain : (head : Head) (tasks : List Task) (labels : List Label) (chains : L
 unfolding tableOf joins writerOf reads
 same-chain head tasks labels chains chain meets =
     record { chain-length = meets .chain-length; chain-task = meets .chain-task; chain-step = meets .chain-step }
-
--- what stands for a task or a label past the last one
-abbrev pub no-task : Task
-no-task = record { core = 0; period = 0 }
-
-abbrev pub no-label : Label
-no-label = record { writer = 0; readers = 0 }
 
 module _ (head : Head) (tasks : List Task) (labels : List Label) (chains : List (List ℕ)) where
   abbrev whole : Whole

@@ -77,36 +77,37 @@ module _ (image : List ℕ) where
   with-lengths table body chains lengths held = rw (body .held, held)
 
   -- a part that is refused refuses the fields
-  pub fields-refused : (read : TableRead) (rows : Rows) (r : Refusal) {p : ℕ} → read .answer ≡ Refused r p
-      → allFields image 0 ≡ refuses (numberOf r) p → FieldsRead image read rows
-  fields-refused read rows r told refused = record { next = 0; said = still-refused _ r told ∙ sym refused }
+  pub fields-refused : (answer : Answer) (table : Table) (rows : Rows) (r : Refusal) {p : ℕ} → answer ≡ Refused r p
+      → allFields image 0 ≡ refuses (numberOf r) p → FieldsRead image answer table rows
+  fields-refused answer table rows r told refused = record { next = 0; said = still-refused _ r told ∙ sym refused }
 
   -- The chains after a body, and then the fill.
-  module _ {table : Table} (body : Body image table) {chains : ChainsRead} {rows : Rows}
-      (read : ChainsTaken image (26 + 23 * table .tasks + 37 * table .labels) table (table .chains) chains rows) where
-    pub chains-refused : (r : Refusal) {p : ℕ} → chains .answer ≡ Refused r p
-        → allFields image 0 ≡ refuses (numberOf r) p
-    chains-refused r told = after-body table body ∙ rw (not-taken _ r told (read .said))
+  module _ {table : Table} (body : Body image table) {chains : ChainsRead} {lengths : List ℕ} {rows : Rows}
+      (read : ChainsTaken image (26 + 23 * table .tasks + 37 * table .labels) table (table .chains) chains lengths rows)
+    where
+      pub chains-refused : (r : Refusal) {p : ℕ} → chains .answer ≡ Refused r p
+          → allFields image 0 ≡ refuses (numberOf r) p
+      chains-refused r told = after-body table body ∙ rw (not-taken _ r told (read .said))
 
-    -- the fill was taken
-    all-filled : (filled : Taken (Unit {0})) → chains .answer ≡ Accepted → fill image (chains .next) ≡ gives filled
-        → FieldsRead image (record { answer = Accepted; table = lengthened table (chains .length) }) rows
-    all-filled filled told is = record {
-      next = filled .next;
-      said = rw (read .held, ← with-lengths table body (read .values) (chains .length) (read .lengths))
-          (sym (after-body table body ∙ rw (taken _ told (read .said), is)));
-    }
+      -- the fill was taken
+      all-filled : (filled : Taken (Unit {0})) → chains .answer ≡ Accepted → fill image (chains .next) ≡ gives filled
+          → FieldsRead image Accepted (lengthened table lengths) rows
+      all-filled filled told is = record {
+        next = filled .next;
+        said = rw (read .held, ← with-lengths table body (read .values) lengths (read .lengths-held))
+            (sym (after-body table body ∙ rw (taken _ told (read .said), is)));
+      }
 
-    -- the answer of the fill is that of all fields
-    pub fields-filled : (answer : Answer) → chains .answer ≡ Accepted
-        → saidOfImage answer ≡ askedOf (fill image (chains .next)) (λ filled. gives tt)
-        → FieldsRead image (record { answer = answer; table = lengthened table (chains .length) }) rows
-    fields-filled Accepted told said =
-        let filled = something-given (fill image (chains .next)) (sym said) in
-        all-filled (filled .0) told (filled .1)
-    fields-filled (Refused r p) told said =
-        fields-refused _ rows r refl (after-body table body
-        ∙ rw (taken _ told (read .said)) (refusal-handed-on (fill image (chains .next)) _ (sym said)))
+      -- the answer of the fill is that of all fields
+      pub fields-filled : (answer : Answer) → chains .answer ≡ Accepted
+          → saidOfImage answer ≡ askedOf (fill image (chains .next)) (λ filled. gives tt)
+          → FieldsRead image answer (lengthened table lengths) rows
+      fields-filled Accepted told said =
+          let filled = something-given (fill image (chains .next)) (sym said) in
+          all-filled (filled .0) told (filled .1)
+      fields-filled (Refused r p) told said =
+          fields-refused _ _ rows r refl (after-body table body
+          ∙ rw (taken _ told (read .said)) (refusal-handed-on (fill image (chains .next)) _ (sym said)))
 
   module _ (taken : Taken Whole) (all : allFields image 0 ≡ gives taken) where
     -- H above 1,000,000

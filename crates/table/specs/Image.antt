@@ -9,6 +9,7 @@ use lib.ListN.{length, replicate}
 use Rattle.lists.specs.Lists.{someBelow, padded}
 use Rattle.bits.specs.Bits.{bitCount}
 use Rattle.outcomes.specs.Outcome.{Outcome, gives, askedOf}
+use Rattle.times.specs.Rounds.{inLimit}
 use Rattle.table.specs.Reading.{Taker, done, _then_, field, inRow, check}
 use Rattle.table.specs.Table.{Rows, marks, joins, hyperperiodOf}
 use Rattle.table.specs.declared.Table.{Table}
@@ -125,7 +126,7 @@ allFields =
 unfoldable pub wholeFields : Taker Whole
 wholeFields =
     allFields then λ whole.
-    check (leb (hyperperiodOf (whole .table)) 1000000) 10 0 then λ checked.
+    check (inLimit (hyperperiodOf (whole .table))) 10 0 then λ checked.
     done whole
 
 -- any string of bytes: its table and rows, or the first refusal

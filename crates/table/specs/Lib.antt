@@ -1,5 +1,6 @@
 -- Definitions of this crate.
 pub mod Image
+pub mod Linked
 pub mod Parts
 pub mod Reading
 pub mod Refusals

@@ -13,6 +13,7 @@ use Rattle.table.specs.Refusals.{numberOf, saidWith}
 use Rattle.table.specs.Table.{Rows}
 use Rattle.table.specs.Image.{Head, Task, Label, headFields, taskFields, labelFields, tableOf, chainTask}
 use Rattle.table.specs.Image.{chainFields, rowsOf, allFields, readImage}
+use Rattle.table.specs.Linked.{WritersFew}
 use Rattle.table.specs.Shown.{shownOf}
 use Rattle.table.specs.declared.Answer.{Answer}
 use Rattle.table.specs.declared.Answer.the-variants.{Accepted, Refused}
@@ -21,9 +22,7 @@ use Rattle.table.specs.declared.TableRead.{TableRead}
 use Rattle.table.specs.declared.parts.Got.{Got}
 use Rattle.table.specs.declared.parts.HeadRead.{HeadRead}
 use Rattle.table.specs.declared.parts.TaskRead.{TaskRead}
-use Rattle.table.specs.declared.parts.TasksRead.{TasksRead}
 use Rattle.table.specs.declared.parts.LabelRead.{LabelRead}
-use Rattle.table.specs.declared.parts.LabelsRead.{LabelsRead}
 use Rattle.table.specs.declared.parts.StepsRead.{StepsRead}
 use Rattle.table.specs.declared.parts.ChainRead.{ChainRead}
 use Rattle.table.specs.declared.parts.ChainsRead.{ChainsRead}
@@ -67,15 +66,13 @@ pub record RowRead {A : Type 0} (size step : ℕ) (one : Taker A) (f g : A → �
   pub held-second : second ≡ padded size 0 (map g values)
 
 -- the tasks of an image, and the labels
-abbrev pub TasksTaken : (image : List ℕ) (at cores count : ℕ) → TasksRead → Type 0
-TasksTaken image at cores count r =
+abbrev pub TasksTaken : (image : List ℕ) (at cores count : ℕ) (answer : Answer) (core period : List ℕ) → Type 0
+TasksTaken image at cores count =
     RowRead 32 23 (taskFields cores) (λ task. task .core) (λ task. task .period) image at count
-    (r .answer) (r .core) (r .period)
 
-abbrev pub LabelsTaken : (image : List ℕ) (at tasks count : ℕ) → LabelsRead → Type 0
-LabelsTaken image at tasks count r =
+abbrev pub LabelsTaken : (image : List ℕ) (at tasks count : ℕ) (answer : Answer) (writer readers : List ℕ) → Type 0
+LabelsTaken image at tasks count =
     RowRead 64 37 (labelFields tasks) (λ label. label .writer) (λ label. label .readers) image at count
-    (r .answer) (r .writer) (r .readers)
 
 -- a chain's task numbers from bit `at` on, with the bit after them, or the refusal's number and place; the row holds
 -- those that were taken, and then 0
@@ -95,14 +92,28 @@ pub record ChainTaken (image : List ℕ) (at : ℕ) (table : Table) (r : ChainRe
 
 -- the chains from bit `at` on, with the bit after them, or the refusal's number and place; the array holds their
 -- lengths and the rows their task numbers
-pub record ChainsTaken (image : List ℕ) (at : ℕ) (table : Table) (count : ℕ) (r : ChainsRead)
+pub record ChainsTaken (image : List ℕ) (at : ℕ) (table : Table) (count : ℕ) (r : ChainsRead) (lengths : List ℕ)
     (rows : Rows) : Type 0 where
   pub values : List (List ℕ)
   pub said : saidWith (r .answer) (record { value = values; next = r .next })
       ≡ inRow count (λ before. chainFields table) image at
   pub near : r .next ≤ at + 44 * count
-  pub lengths : r .length ≡ padded 16 0 (map (λ chain. length chain) values)
+  pub lengths-held : lengths ≡ padded 16 0 (map (λ chain. length chain) values)
   pub held : rows ≡ rowsOf values
+
+-- the table of a head and of the arrays beside it
+abbrev pub heldIn : HeadRead → (core period writer readers length : List ℕ) → Table
+heldIn r core period writer readers length = record {
+  cores = r .cores;
+  tasks = r .tasks;
+  labels = r .labels;
+  chains = r .chains;
+  core = core;
+  period = period;
+  writer = writer;
+  readers = readers;
+  length = length;
+}
 
 -- head, tasks and labels that were taken, and the table of them
 pub record Body (image : List ℕ) (table : Table) : Type 0 where
@@ -117,19 +128,19 @@ pub record Body (image : List ℕ) (table : Table) : Type 0 where
   pub held : table ≡ tableOf head tasks labels []
   pub few-tasks : table .tasks ≤ 32
   pub few-labels : table .labels ≤ 64
+  pub few-writers : WritersFew (table .writer) (table .labels)
   pub few-chains : table .chains ≤ 16
 
 -- the image up to its labels: the table but for its chains, or the image's refusal
-pub record BodyRead (image : List ℕ) (r : TableRead) : Type 0 where
-  pub accepted : r .answer ≡ Accepted → Body image (r .table)
-  pub refused : (refusal : Refusal) (place : ℕ) → r .answer ≡ Refused refusal place
+pub record BodyRead (image : List ℕ) (answer : Answer) (table : Table) : Type 0 where
+  pub accepted : answer ≡ Accepted → Body image table
+  pub refused : (refusal : Refusal) (place : ℕ) → answer ≡ Refused refusal place
       → allFields image 0 ≡ refuses (numberOf refusal) place
 
 -- all fields and the fill: the table and the rows, with the bit after them, or the image's refusal
-pub record FieldsRead (image : List ℕ) (r : TableRead) (rows : Rows) : Type 0 where
+pub record FieldsRead (image : List ℕ) (answer : Answer) (table : Table) (rows : Rows) : Type 0 where
   pub next : ℕ
-  pub said : saidWith (r .answer) (record { value = record { table = r .table; rows = rows }; next = next })
-      ≡ allFields image 0
+  pub said : saidWith answer (record { value = record { table = table; rows = rows }; next = next }) ≡ allFields image 0
 
 -- the whole image: its table and rows, or its refusal and a table with nothing in it
 pub record AllRead (image : List ℕ) (r : TableRead) (rows : Rows) : Type 0 where

@@ -1,68 +1,31 @@
-// "Each chain: length 4, then that many task numbers of 5"; "Each step of a chain needs a label that the earlier task
-// writes and the next one reads" (document 01, Table image).
+// "Each chain: length 4, then that many task numbers of 5" (document 01, Table image).
 ghost use mathlib.Core.Path.{_≡_};
 ghost use mathlib.Core.List.{[]};
 ghost use Prim.Native.Nat.{_≤_};
+ghost use lib.ListN.{replicate};
 ghost use Rattle.table.specs.Image.{rowsOf};
-ghost use Rattle.table.specs.Parts.{StepsTaken, ChainTaken, ChainsTaken};
+ghost use Rattle.table.specs.Linked.{WritersFew, Falling, Searched, Labelled, InEach};
+ghost use Rattle.table.specs.Parts.{ChainTaken, ChainsTaken};
 use crate::Answer;
 use crate::Refusal;
-use crate::Table;
 use crate::fields::ranged;
-use crate::goes;
+use crate::links::link;
 use crate::parts::ChainRead;
 use crate::parts::ChainsRead;
-use crate::parts::StepsRead;
-
-// The task numbers of a chain, from bit `at` on, with the search for each step's label.
-fn read_steps(image: &[u8], at: usize, table: Table, length: usize) -> StepsRead
-    requires { ⌜ (at ≤ 65535) × (table .tasks ≤ 32) × (table .labels ≤ 64) × (length ≤ 8) ⌝ }
-    ensures { λ r. ⌜ StepsTaken (now (image .entry)) at table length r ⌝ }
-{
-    let tasks = table.tasks as u32;
-    let labels = table.labels;
-    let mut row = [0u32; 8];
-    let mut last: u64 = 0;
-    let mut j: usize = 0;
-    'steps: while j < length {
-        let place = at + 5 * j;
-        let task = ranged(image, place, 5, 0, tasks, Refusal::Chain);
-        let answer = task.answer;
-        let Answer::Accepted = answer else {
-            return StepsRead { answer, row };
-        };
-        let earlier = last;
-        last = task.value as u64;
-        row[j] = task.value;
-        j += 1;
-        if j == 1 {
-            continue 'steps; // the first task ends no step
-        }
-        let mut l: usize = 0;
-        while l < labels {
-            if goes(table.writer[l], table.readers[l], earlier, last) {
-                continue 'steps;
-            }
-            l += 1;
-        }
-        return StepsRead {
-            answer: Answer::Refused {
-                refusal: Refusal::Chain,
-                place,
-            },
-            row,
-        };
-    }
-    StepsRead {
-        answer: Answer::Accepted,
-        row,
-    }
-}
+use crate::searches::read_steps;
 
 // One chain: its length, and then its task numbers.
-fn read_chain(image: &[u8], at: usize, table: Table) -> ChainRead
-    requires { ⌜ (at ≤ 65000) × (table .tasks ≤ 32) × (table .labels ≤ 64) ⌝ }
-    ensures { λ r. ⌜ ChainTaken (now (image .entry)) at table r ⌝ }
+fn read_chain(
+    image: &[u8],
+    at: usize,
+    tasks: u32,
+    readers: &[u32; 64],
+    latest: &[u8; 32],
+    before: &[u8; 64],
+) -> ChainRead
+    requires { ⌜ (at ≤ 65000) × (tasks ≤ 32) × Falling (now latest) (now before) ⌝ }
+    ensures { λ r. ⌜ InEach (Searched tasks (now (readers .entry)) (now (latest .entry)) (now (before .entry)))
+        (λ table. ChainTaken (now (image .entry)) at table r) ⌝ }
 {
     let length = ranged(image, at, 4, 2, 9, Refusal::Chain);
     let answer = length.answer;
@@ -73,7 +36,15 @@ fn read_chain(image: &[u8], at: usize, table: Table) -> ChainRead
             row: [0u32; 8],
         };
     };
-    let steps = read_steps(image, at + 4, table, length.value as usize);
+    let steps = read_steps(
+        image,
+        at + 4,
+        tasks,
+        readers,
+        latest,
+        before,
+        length.value as usize,
+    );
     let last = steps.answer;
     let row = steps.row;
     ChainRead {
@@ -83,29 +54,33 @@ fn read_chain(image: &[u8], at: usize, table: Table) -> ChainRead
     }
 }
 
-// All chains, from bit `at` on; their task numbers go into the rows.
+// All chains, from bit `at` on; their lengths go into the array and their task numbers into the rows.
 pub(crate) fn read_chains(
     image: &[u8],
     at: usize,
-    table: Table,
+    tasks: u32,
+    labels: usize,
+    writer: &[u32; 64],
+    readers: &[u32; 64],
     chains: usize,
+    length: &mut [u32; 16],
     rows: &mut [[u32; 8]; 16],
 ) -> ChainsRead
-    requires { ⌜ (at ≤ 4096) × (table .tasks ≤ 32) × (table .labels ≤ 64) × (chains ≤ 16) × (now rows ≡ rowsOf []) ⌝ }
-    ensures { λ r. ⌜ ChainsTaken (now (image .entry)) at table chains r (now (rows .exit)) ⌝ }
+    requires { ⌜ (at ≤ 4096) × (tasks ≤ 32) × (labels ≤ 64) × WritersFew (now writer) labels × (chains ≤ 16)
+        × (now length ≡ replicate 16 0) × (now rows ≡ rowsOf []) ⌝ }
+    ensures { λ r. ⌜ InEach (Labelled tasks labels (now (writer .entry)) (now (readers .entry)))
+        (λ table. ChainsTaken (now (image .entry)) at table chains r (now (length .exit)) (now (rows .exit))) ⌝ }
 {
-    let mut length = [0u32; 16];
+    let mut latest = [0u8; 32];
+    let mut before = [0u8; 64];
+    link(writer, labels, &mut latest, &mut before);
     let mut next = at;
     let mut k: usize = 0;
     while k < chains {
-        let chain = read_chain(image, next, table);
+        let chain = read_chain(image, next, tasks, readers, &latest, &before);
         let answer = chain.answer;
         let Answer::Accepted = answer else {
-            return ChainsRead {
-                answer,
-                length,
-                next,
-            };
+            return ChainsRead { answer, next };
         };
         let row = chain.row;
         rows[k] = row;
@@ -115,7 +90,6 @@ pub(crate) fn read_chains(
     }
     ChainsRead {
         answer: Answer::Accepted,
-        length,
         next,
     }
 }

@@ -1,13 +1,13 @@
 // "Each label: writer 5, readers 32" (document 01, Table image).
 ghost use mathlib.Core.Path.{_≡_};
 ghost use Prim.Native.Nat.{_+_, _≤_, _<_};
+ghost use lib.ListN.{replicate};
 ghost use Rattle.table.specs.Image.{labelFields, rightReaders};
 ghost use Rattle.table.specs.Parts.{labelRead, LabelsTaken};
 use crate::Answer;
 use crate::Refusal;
 use crate::fields::ranged;
 use crate::parts::LabelRead;
-use crate::parts::LabelsRead;
 use bits::Found;
 
 // A readers field marks only tasks of the table, and not the writer. The bits past the last task's are what is left of
@@ -67,31 +67,29 @@ fn read_label(image: &[u8], at: usize, tasks: u32) -> LabelRead
     }
 }
 
-// All labels, from bit `at` on.
-pub(crate) fn read_labels(image: &[u8], at: usize, tasks: u32, labels: usize) -> LabelsRead
-    requires { ⌜ (at ≤ 1024) × (tasks ≤ 32) × (labels ≤ 64) ⌝ }
-    ensures { λ r. ⌜ LabelsTaken (now (image .entry)) at tasks labels r ⌝ }
+// All labels, from bit `at` on; the arrays, which hold nothing at first, hold their writers and readers.
+pub(crate) fn read_labels(
+    image: &[u8],
+    at: usize,
+    tasks: u32,
+    labels: usize,
+    writer: &mut [u32; 64],
+    readers: &mut [u32; 64],
+) -> Answer
+    requires { ⌜ (at ≤ 1024) × (tasks ≤ 32) × (labels ≤ 64) × (now writer ≡ replicate 64 0)
+        × (now readers ≡ replicate 64 0) ⌝ }
+    ensures { λ r. ⌜ LabelsTaken (now (image .entry)) at tasks labels r (now (writer .exit)) (now (readers .exit)) ⌝ }
 {
-    let mut writer = [0u32; 64];
-    let mut readers = [0u32; 64];
     let mut l: usize = 0;
     while l < labels {
         let label = read_label(image, at + 37 * l, tasks);
         let answer = label.answer;
         let Answer::Accepted = answer else {
-            return LabelsRead {
-                answer,
-                writer,
-                readers,
-            };
+            return answer;
         };
         writer[l] = label.writer;
         readers[l] = label.readers;
         l += 1;
     }
-    LabelsRead {
-        answer: Answer::Accepted,
-        writer,
-        readers,
-    }
+    Answer::Accepted
 }

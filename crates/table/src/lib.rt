@@ -7,13 +7,16 @@ ghost use Rattle.table.specs.Table.{marks};
 ghost use Rattle.table.specs.Refusals.{numberOf};
 ghost use Rattle.table.specs.Shown.{shownOf, TableShown};
 
+mod bodies;
 mod chains;
 mod endings;
 mod fields;
 mod heads;
 mod images;
 mod labels;
+mod links;
 mod parts;
+mod searches;
 mod tasks;
 
 use images::read_all;
@@ -61,15 +64,22 @@ pub struct TableRead {
     pub table: Table,
 }
 
-// A label of this writer and these readers goes from task w to task r. No bit of a readers field stands for a task past
-// 31.
+// Task i is marked in a readers field. No bit of it stands for a task past 31.
+pub(crate) fn marked(readers: u32, i: u64) -> bool
+    ensures { λ b. ⌜ b ≡ marks readers i ⌝ }
+{
+    if i < 32 {
+        return (readers >> (31 - i as u32)) % 2 == 1;
+    }
+    false
+}
+
+// A label of this writer and these readers goes from task w to task r.
 pub fn goes(writer: u32, readers: u32, w: u64, r: u64) -> bool
     ensures { λ b. ⌜ b ≡ (eqb writer w && marks readers r) ⌝ }
 {
     if writer as u64 == w {
-        if r < 32 {
-            return (readers >> (31 - r as u32)) % 2 == 1;
-        }
+        return marked(readers, r);
     }
     false
 }

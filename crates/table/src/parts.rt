@@ -8,7 +8,7 @@ pub struct Got {
     pub value: u32,
 }
 
-// The same of the head.
+// The same of the head, and of what follows it as far as it is read: the counts are those of the head.
 pub struct HeadRead {
     pub answer: Answer,
     pub cores: usize,
@@ -17,33 +17,21 @@ pub struct HeadRead {
     pub chains: usize,
 }
 
-// The same of one task, and of all tasks.
+// The same of one task.
 pub struct TaskRead {
     pub answer: Answer,
     pub core: u32,
     pub period: u32,
 }
 
-pub struct TasksRead {
-    pub answer: Answer,
-    pub core: [u32; 32],
-    pub period: [u32; 32],
-}
-
-// The same of one label, and of all labels.
+// The same of one label.
 pub struct LabelRead {
     pub answer: Answer,
     pub writer: u32,
     pub readers: u32,
 }
 
-pub struct LabelsRead {
-    pub answer: Answer,
-    pub writer: [u32; 64],
-    pub readers: [u32; 64],
-}
-
-// The same of the steps of one chain, of one chain, and of all chains, whose rows stand beside it.
+// The same of the steps of one chain, of one chain, and of all chains, of which it says where they end.
 pub struct StepsRead {
     pub answer: Answer,
     pub row: [u32; 8],
@@ -57,6 +45,5 @@ pub struct ChainRead {
 
 pub struct ChainsRead {
     pub answer: Answer,
-    pub length: [u32; 16],
     pub next: usize,
 }

@@ -1,6 +1,7 @@
 // "Each task: core 3, period 20" (document 01, Table image).
 ghost use mathlib.Core.Path.{_≡_};
 ghost use Prim.Native.Nat.{_+_, _≤_};
+ghost use lib.ListN.{replicate};
 ghost use Rattle.table.specs.Image.{taskFields};
 ghost use Rattle.table.specs.Parts.{taskRead, TasksTaken};
 use crate::Answer;
@@ -8,7 +9,6 @@ use crate::Refusal;
 use crate::fields::ranged;
 use crate::fields::ranged_after;
 use crate::parts::TaskRead;
-use crate::parts::TasksRead;
 
 // One task: its core and its period.
 fn read_task(image: &[u8], at: usize, cores: u32) -> TaskRead
@@ -25,31 +25,28 @@ fn read_task(image: &[u8], at: usize, cores: u32) -> TaskRead
     }
 }
 
-// All tasks, from bit `at` on.
-pub(crate) fn read_tasks(image: &[u8], at: usize, cores: u32, tasks: usize) -> TasksRead
-    requires { ⌜ (at ≤ 26) × (tasks ≤ 32) ⌝ }
-    ensures { λ r. ⌜ TasksTaken (now (image .entry)) at cores tasks r ⌝ }
+// All tasks, from bit `at` on; the arrays, which hold nothing at first, hold their cores and periods.
+pub(crate) fn read_tasks(
+    image: &[u8],
+    at: usize,
+    cores: u32,
+    tasks: usize,
+    core: &mut [u32; 32],
+    period: &mut [u32; 32],
+) -> Answer
+    requires { ⌜ (at ≤ 26) × (tasks ≤ 32) × (now core ≡ replicate 32 0) × (now period ≡ replicate 32 0) ⌝ }
+    ensures { λ r. ⌜ TasksTaken (now (image .entry)) at cores tasks r (now (core .exit)) (now (period .exit)) ⌝ }
 {
-    let mut core = [0u32; 32];
-    let mut period = [0u32; 32];
     let mut i: usize = 0;
     while i < tasks {
         let task = read_task(image, at + 23 * i, cores);
         let answer = task.answer;
         let Answer::Accepted = answer else {
-            return TasksRead {
-                answer,
-                core,
-                period,
-            };
+            return answer;
         };
         core[i] = task.core;
         period[i] = task.period;
         i += 1;
     }
-    TasksRead {
-        answer: Answer::Accepted,
-        core,
-        period,
-    }
+    Answer::Accepted
 }

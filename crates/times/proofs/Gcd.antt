@@ -1,9 +1,9 @@
 -- The greatest common divisor: it divides both numbers, and every common divisor divides it. Document 01, Language
 -- form: "greatest common divisor by recursion on the falling remainder". Assumes nothing.
 use Prim.Native.Nat.{ℕ, zero, suc, _*_, _/_, _%_, _<_, _≤_, _∣_}
-use mathlib.Core.Path.{_≡_, refl}
-use native.Mathlib.Nat.{dvd-refl, dvd-zero, dvd-mod-iff, dvd-sub, dvd-mul-right-of-dvd, mod-lt, mod-eq-sub-mul-div}
-use native.Mathlib.Nat.{mul-sub, mul-assoc, one-mul, pos-of-dvd-of-pos, zero-lt-suc}
+use mathlib.Core.Path.{_≡_, refl, sym, ap, _∙_}
+use native.Mathlib.Nat.{dvd-refl, dvd-zero, dvd-mod-iff, dvd-sub, dvd-mul-right-of-dvd, mod-lt}
+use native.Mathlib.Nat.{mod-eq-of-lt, mod-eq-sub-mul-div, mul-sub, mul-assoc, one-mul, pos-of-dvd-of-pos, zero-lt-suc}
 use native.Mathlib.Omega.{arith}
 use Rattle.times.specs.Hyperperiod.{gcd, gcdIn}
 
@@ -32,6 +32,10 @@ gcd-step a zero h = absurd (omega arith)
 gcd-step a (suc b) h =
     let falls : a % suc b < suc b = mod-lt a (zero-lt-suc b) in
     turns-enough b (a % suc b) (suc b) (a % suc b) (omega arith) (omega arith)
+
+-- the smaller number first: one turn more
+pub gcd-turned : (a b : ℕ) → a < b → gcd b a ≡ gcd a b
+gcd-turned a b less = sym (gcd-step a b (omega arith) ∙ ap (gcd b) (mod-eq-of-lt less))
 
 -- what holds of a and 0 and is handed on from b and the remainder to a and b holds of every two numbers
 module _ (P : ℕ → ℕ → ℕ → Type 0) (start : (a : ℕ) → P a 0 a)

@@ -6,7 +6,8 @@ use native.Mathlib.Omega.{arith}
 use lib.ListN.{length}
 use Rattle.lists.proofs.Each.{one-each-same}
 use Rattle.table.specs.Image.{Head, Task, Label, Whole, tableOf, rowsOf}
-use Rattle.table.proofs.MeetsRules.{no-task, no-label, task-at, label-at, chain-at}
+use Rattle.table.proofs.FieldRules.{no-task, no-label}
+use Rattle.table.proofs.MeetsRules.{task-at, label-at, chain-at}
 use Rattle.writing.specs.Written.{headOf, tasksOf, labelsOf, chainsOf}
 
 module _ (head : Head) (tasks : List Task) (labels : List Label) (chains : List (List ℕ)) where

@@ -41,7 +41,7 @@ enum-told-2 c = search needs
 
 returns : tie.Need-returns
 unfolding chainFields padded
-returns c =
+returns c table searched =
     let told = c .enum-told2 .given .1 in
     record {
       steps = [];
@@ -61,13 +61,13 @@ read-steps-requires : tie.Need-read-steps-requires
 read-steps-requires c κs =
     let bounds = length-bounds (c .before) in
     let start = c .before .before .before .before .before in
-    (omega arith, start .pre .1, start .pre .2, bounds .1)
+    (omega arith, start .pre .1, bounds .1, start .pre .2)
 
 returns-2 : tie.Need-returns-2
 unfolding chainFields
-returns-2 c =
+returns-2 c table searched =
     let told = c .before .before .before in
-    let taken-steps = c .before .read-steps .ensures in
+    let taken-steps = c .before .read-steps .ensures table searched in
     record {
       steps = taken-steps .steps;
       said = rw (length-taken told) (taken-steps .said);

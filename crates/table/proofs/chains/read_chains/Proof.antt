@@ -1,80 +1,100 @@
--- `table::chains::read_chains` meets its contract. The loop's invariant: the chains passed were taken, the array holds
--- their lengths, and the rows hold their task numbers. Assumes nothing.
+-- `table::chains::read_chains` meets its contract. The loop's invariant, in each table of these tasks and labels: the
+-- chains passed were taken, the array holds their lengths, and the rows hold their task numbers. Assumes nothing.
 use Prim.Native.Nat.{_-_, _≤_}
+use mathlib.Core.Path.{refl}
+use mathlib.Core.List.{[]}
 use native.Mathlib.Omega.{arith}
 use Rattle.lists.specs.Lists.{padded}
+use Rattle.table.specs.Linked.{Labelled, Searched, InEach}
+use Rattle.table.specs.declared.Table.{Table}
 use Rattle.table.proofs.Steps.{taken, not-taken}
 use Rattle.table.proofs.ChainRows.{ChainsPassed, no-chain-passed, chain-passed, chains-refused, chains-whole}
+use Rattle.table.proofs.LabelSearch.{as-it-is, with-links}
 use Rattle.table.proofs.chains.read_chains.Statement.{statement}
 use Rattle.table.proofs.chains.read_chains.Tie as tie
 
 abbrev Inv-loop : tie.InvT-loop
-Inv-loop image at table chains rows₀ length₀ next₀ k₀ rows length next k =
-    (k ≤ chains) × ChainsPassed image at table k length rows next
+Inv-loop image at tasks labels writer readers chains length₀ rows₀ latest before next₀ k₀ length rows next k =
+    (k ≤ chains)
+    × InEach (Labelled tasks labels writer readers) (λ table. ChainsPassed image at table k length rows next)
 
 abbrev μ-loop : tie.MeasureT-loop
-μ-loop image at table chains rows₀ length₀ next₀ k₀ rows length next k = chains - k
+μ-loop image at tasks labels writer readers chains length₀ rows₀ latest before next₀ k₀ length rows next k = chains - k
+
+-- the search is given such a table's own tasks, readers and links
+searched : (c : tie.After-link Inv-loop μ-loop)
+    → let args = c .before .before .before .before .args in
+    InEach (Labelled (args .tasks) (args .labels) (args .writer .now) (args .readers .now))
+    (Searched (args .tasks) (args .readers .now) (c .link .last .1 .1 .0) (c .link .last .1 .1 .1 .0))
+searched c table given = with-links given (c .link .ensures .0)
+
+-- one such table, for what holds in each of them and does not speak of tables: no place and no length is large
+abbrev one : (c : tie.After-link Inv-loop μ-loop) → Table
+one c =
+    let args = c .before .before .before .before .args in
+    record {
+      cores = 0;
+      tasks = args .tasks;
+      labels = args .labels;
+      chains = 0;
+      core = [];
+      period = [];
+      writer = args .writer .now;
+      readers = args .readers .now;
+      length = [];
+    }
+
+near : (c : tie.At-loop Inv-loop μ-loop) → c .loop .next ≤ 65000
+near c = omega (arith, c .loop .inv .1 _ (as-it-is (one (c .before))) .near)
+
+short : (c : tie.After-read-chain Inv-loop μ-loop) → c .read-chain .result .length ≤ 8
+short c =
+    let link = c .before .before .before .before .before in
+    c .read-chain .ensures _ (searched link _ (as-it-is (one link))) .few
+
+link-requires : tie.Need-link-requires Inv-loop μ-loop
+link-requires c κs =
+    let start = c .before .before .before in
+    (start .pre .2, start .pre .3, refl, refl)
+
+read-chain-requires : tie.Need-read-chain-requires Inv-loop μ-loop
+read-chain-requires c κs =
+    let turn = c .before .before .before in
+    (near turn, turn .before .before .before .before .before .pre .1, turn .before .link .ensures .1)
 
 loop-holds : tie.Need-loop-holds Inv-loop μ-loop
 unfolding padded
-loop-holds c = (omega arith, rw (c .before .pre .4) (no-chain-passed _ _ _))
-
-read-chain-requires : tie.Need-read-chain-requires Inv-loop μ-loop
-read-chain-requires c κs = omega arith
-
-enum-told : tie.Need-enum-told Inv-loop μ-loop
-enum-told c = omega arith
-
-enum-told-2 : tie.Need-enum-told-2 Inv-loop μ-loop
-enum-told-2 c = omega arith
+loop-holds c =
+    let start = c .before .before .before .before in
+    (omega arith, λ table given. rw (start .pre .5, start .pre .6) (no-chain-passed _ _ _))
 
 returns : tie.Need-returns Inv-loop μ-loop
-returns c =
+returns c table given =
     let told = c .enum-told2 .given .1 in
-    chains-refused _ _ _ (c .before .before .before .before .loop .inv .1) _ _ _ _ (omega arith) told
-    (not-taken _ _ told (c .before .before .read-chain .ensures .said))
-
-mul-row : tie.Need-mul-row Inv-loop μ-loop
-mul-row c = omega arith
-
-element-set-from-row : tie.Need-element-set-from-row Inv-loop μ-loop
-element-set-from-row c = omega arith
-
-mul-length : tie.Need-mul-length Inv-loop μ-loop
-mul-length c = omega arith
-
-array-write-length : tie.Need-array-write-length Inv-loop μ-loop
-array-write-length c = omega arith
-
-add-next : tie.Need-add-next Inv-loop μ-loop
-add-next c = omega arith
-
-cast-next : tie.Need-cast-next Inv-loop μ-loop
-cast-next c = omega arith
-
-mul-next : tie.Need-mul-next Inv-loop μ-loop
-mul-next c = omega arith
+    let turn = c .before .before in
+    let loop = turn .before .before .before .before in
+    let chain = turn .read-chain .ensures table (searched (loop .before) table given) in
+    chains-refused _ _ _ (loop .loop .inv .1 table given) _ _ _ _ (omega arith) told (not-taken _ _ told (chain .said))
 
 add-next-2 : tie.Need-add-next-2 Inv-loop μ-loop
-add-next-2 c = omega arith
-
-add-k : tie.Need-add-k Inv-loop μ-loop
-add-k c = omega arith
-
-loop-less : tie.Need-loop-less Inv-loop μ-loop
-loop-less c = omega arith
+add-next-2 c =
+    let turn = c .before .before .before .before in
+    omega (arith, near (turn .before .before .before .before), short turn)
 
 loop-again : tie.Need-loop-again Inv-loop μ-loop
 loop-again c =
     let told = c .before .before .enum-told .given .1 in
-    let chain = c .before .before .before .before .read-chain .ensures in (
+    let turn = c .before .before .before .before in
+    let loop = turn .before .before .before .before in (
       omega arith,
-      chain-passed _ _ _ (c .before .before .before .before .before .before .loop .inv .1) _ _ _ (omega arith)
+      λ table given.
+          let chain = turn .read-chain .ensures table (searched (loop .before) table given) in
+          chain-passed _ _ _ (loop .loop .inv .1 table given) _ _ _ (omega arith)
           (chain .long told) (chain .few) (chain .held) (taken _ told (chain .said)),
     )
 
 returns-2 : tie.Need-returns-2 Inv-loop μ-loop
-returns-2 c = chains-whole _ _ _ (c .before .loop .inv .1) _ (omega arith)
+returns-2 c table given = chains-whole _ _ _ (c .before .loop .inv .1 table given) _ (omega arith)
 
 pub read-chains-spec : {M : Type 1} → statement M
 read-chains-spec =
@@ -82,20 +102,21 @@ read-chains-spec =
     (tie.spec
     Inv-loop
     μ-loop
+    link-requires
     loop-holds
     read-chain-requires
-    enum-told
-    enum-told-2
+    (λ c. omega arith)  -- enum-told
+    (λ c. omega arith)  -- enum-told-2
     returns
-    mul-row
-    element-set-from-row
-    mul-length
-    array-write-length
-    add-next
-    cast-next
-    mul-next
+    (λ c. omega arith)  -- mul-row
+    (λ c. omega arith)  -- element-set-from-row
+    (λ c. omega arith)  -- mul-length
+    (λ c. omega arith)  -- element-write-length
+    (λ c. omega (arith, near (c .before .before .before .before .before .before .before)))  -- add-next
+    (λ c. omega (arith, short (c .before .before .before .before)))  -- cast-next
+    (λ c. omega (arith, short (c .before .before .before .before)))  -- mul-next
     add-next-2
-    add-k
-    loop-less
+    (λ c. omega arith)  -- add-k
+    (λ c. omega arith)  -- loop-less
     loop-again
     returns-2)

@@ -32,7 +32,8 @@ returns-3 c =
 
 returns-4 : tie.Need-returns-4
 returns-4 c =
-    field-wrong _ _ _ _ _ _ (c .before .before .before .before .field-at .ensures) _ (c .before .before .found .given .1)
+    let found = c .before .before in
+    field-wrong _ _ _ _ _ _ (found .before .before .field-at .ensures) _ (found .found .given .1)
     (rw (lt-leb _ _ (c .if1 .left)))
 
 pub ranged-spec : {M : Type 1} → statement M

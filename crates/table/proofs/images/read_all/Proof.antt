@@ -45,7 +45,7 @@ returns-2 : tie.Need-returns-2
 unfolding hyperperiodOf
 returns-2 c =
     let round = c .before .before .before in
-    let told = round .before .before .before in
+    let told = round .before in
     whole-refused _ _ _ _ refusal.Hyperperiod (c .no-table2 .ensures) refl
     (above-limit _ _ (taken _ (told .enum-told .given .1) (told .before .before .read-fields .ensures .said))
     (above-round _ (sym (round .hyperperiod .ensures) ∙ ap saidOfRound (c .before .enum-told4 .given .1))))
@@ -54,7 +54,7 @@ returns-3 : tie.Need-returns-3
 unfolding hyperperiodOf
 returns-3 c =
     let round = c .before .before in
-    let told = round .before .before .before in
+    let told = round .before in
     whole-read _ _ (taken _ (told .enum-told .given .1) (told .before .before .read-fields .ensures .said))
     (within-round _ _ (sym (round .hyperperiod .ensures) ∙ ap saidOfRound (c .enum-told3 .given .1)) .1)
 

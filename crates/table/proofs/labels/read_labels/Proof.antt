@@ -19,7 +19,7 @@ abbrev μ-loop : tie.MeasureT-loop
 
 loop-holds : tie.Need-loop-holds Inv-loop μ-loop
 unfolding padded
-loop-holds c = (omega arith, passed-none)
+loop-holds c = (omega arith, rw (c .before .pre .3, c .before .pre .4) passed-none)
 
 returns : tie.Need-returns Inv-loop μ-loop
 returns c =

@@ -18,7 +18,7 @@ abbrev μ-loop : tie.MeasureT-loop
 
 loop-holds : tie.Need-loop-holds Inv-loop μ-loop
 unfolding padded
-loop-holds c = (omega arith, passed-none)
+loop-holds c = (omega arith, rw (c .before .pre .2, c .before .pre .3) passed-none)
 
 returns : tie.Need-returns Inv-loop μ-loop
 returns c =

@@ -17,8 +17,8 @@ returns c =
     let b = c .before .args .b in
     omega (arith, ap (λ (k : ℕ). lcm k b) (c .if1 .taken) ∙ lcm-zero-left b)
 
-gcd-requires : tie.Need-gcd-requires
-gcd-requires c κs = search needs
+common-divisor-requires : tie.Need-common-divisor-requires
+common-divisor-requires c κs = search needs
 
 div-multiple : tie.Need-div-multiple
 div-multiple c =
@@ -28,19 +28,22 @@ div-multiple c =
 mul-multiple : tie.Need-mul-multiple
 mul-multiple c =
     let a = c .before .before .args .a in
-    let quotient = div-le-self a (c .gcd .result) in
-    omega (arith, product-at-most (a / c .gcd .result) (c .before .before .args .b) (omega arith) (omega arith))
+    let quotient = div-le-self a (c .common-divisor .result) in
+    let b = c .before .before .args .b in
+    omega (arith, product-at-most (a / c .common-divisor .result) b (omega arith) (omega arith))
 
 cast-result : tie.Need-cast-result
 cast-result c = search needs
 
 -- what is computed is the least common multiple
 multiple-is-lcm
-    : (c : tie.After-gcd)
-    → c .before .before .args .a / c .gcd .result * c .before .before .args .b
+    : (c : tie.After-common-divisor)
+    → c .before .before .args .a / c .common-divisor .result * c .before .before .args .b
     ≡ lcm (c .before .before .args .a) (c .before .before .args .b)
 unfolding lcm
-multiple-is-lcm c = ap (λ (g : ℕ). c .before .before .args .a / g * c .before .before .args .b) (c .gcd .ensures)
+multiple-is-lcm c =
+    let args = c .before .before .args in
+    ap (λ (g : ℕ). args .a / g * args .b) (c .common-divisor .ensures)
 
 returns-2 : tie.Need-returns-2
 returns-2 c = omega (arith, multiple-is-lcm (c .before))
@@ -51,4 +54,4 @@ returns-3 c = omega (arith, multiple-is-lcm (c .before))
 pub lcm-up-to-limit-spec : {M : Type 1} → statement M
 lcm-up-to-limit-spec =
     tie.close
-    (tie.spec returns gcd-requires div-multiple mul-multiple cast-result returns-2 returns-3)
+    (tie.spec returns common-divisor-requires div-multiple mul-multiple cast-result returns-2 returns-3)

@@ -1,0 +1,44 @@
+-- The labels of a table linked by their writers: what the search for a step's label goes through. The reader's own
+-- contract does not cite this file. Assumes nothing.
+use Prim.Native.Nat.{ℕ, _<_, _≤_}
+use mathlib.Core.Path.{_≡_}
+use mathlib.Core.List.{List}
+use lib.Dec.{eqb}
+use lib.ListN.{getD}
+use Rattle.lists.specs.Lists.{lastBelow}
+use Rattle.table.specs.declared.Table.{Table}
+
+-- every label is written by one of 32 tasks
+abbrev pub WritersFew : List ℕ → ℕ → Type 0
+WritersFew writer labels = (l : ℕ) → l < labels → getD writer l 0 < 32
+
+-- the last of the first n labels that task w writes, as its number plus one; 0 where it writes none of them
+abbrev pub lastWritten : (writer : List ℕ) (n w : ℕ) → ℕ
+lastWritten writer n w = lastBelow n (λ l. eqb (getD writer l 0) w)
+
+-- of each task the last label that it writes, and of each label the one before it that the same task writes
+pub record Linked (writer : List ℕ) (labels : ℕ) (latest before : List ℕ) : Type 0 where
+  pub of-tasks : (w : ℕ) → w < 32 → getD latest w 0 ≡ lastWritten writer labels w
+  pub of-labels : (l : ℕ) → l < labels → getD before l 0 ≡ lastWritten writer l (getD writer l 0)
+
+-- every way along the links begins at a label of the arrays and falls, so that it ends
+pub record Falling (latest before : List ℕ) : Type 0 where
+  pub begins : (w : ℕ) → w < 32 → getD latest w 0 ≤ 64
+  pub falls : (l : ℕ) → l < 64 → getD before l 0 ≤ l
+
+-- what a part of the reader is given of a table: how many tasks and labels it has, and its writers and readers
+pub record Labelled (tasks labels : ℕ) (writer readers : List ℕ) (table : Table) : Type 0 where
+  pub tasks-same : table .tasks ≡ tasks
+  pub labels-same : table .labels ≡ labels
+  pub writer-same : table .writer ≡ writer
+  pub readers-same : table .readers ≡ readers
+
+-- what the search for a step's label is given of it: the labels linked by their writers
+pub record Searched (tasks : ℕ) (readers latest before : List ℕ) (table : Table) : Type 0 where
+  pub tasks-same : table .tasks ≡ tasks
+  pub readers-same : table .readers ≡ readers
+  pub linked : Linked (table .writer) (table .labels) latest before
+
+-- in each table of which this is given
+abbrev pub InEach : (Table → Type 0) → (Table → Type 0) → Type 0
+InEach given P = (table : Table) → given table → P table
