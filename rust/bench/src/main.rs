@@ -4,6 +4,7 @@
 
 #![forbid(unsafe_code)]
 
+mod parts;
 mod plain;
 
 use std::hint::black_box;

@@ -1,6 +1,10 @@
 //! The same reading in plain Rust: document 01, "Table image" and the numbers 1 to 10 of "Numbers
 //! that say no". Fields are taken by whole bytes and shifts, eight bytes at once where the image
-//! has them; the table is held in arrays; the hyperperiod is found by greatest common divisors.
+//! has them; the table is held in arrays. The proved code's own means are used too, so that no ratio
+//! rests on a slower way: the search for a step's label meets the labels of one writer only, and a
+//! greatest common divisor begins with the larger number.
+
+use crate::parts::{check_end, field, hyperperiod, joined, linked, ranged};
 
 pub type Refusal = (u32, u64);
 
@@ -31,41 +35,6 @@ pub const NOTHING: Table = Table {
     rows: [[0; 8]; 16],
 };
 
-/// The field of 1 to 32 bits at a place; refused 1 where the image ends before the field does.
-#[inline(always)]
-fn field(image: &[u8], at: usize, width: usize) -> Result<u32, Refusal> {
-    let from = at / 8;
-    if let Some(eight) = image.get(from..).and_then(|rest| rest.first_chunk::<8>()) {
-        return Ok((u64::from_be_bytes(*eight) << (at % 8) >> (64 - width)) as u32);
-    }
-    let end = at + width;
-    let Some(bytes) = image.get(from..end.div_ceil(8)) else {
-        return Err((1, at as u64));
-    };
-    let mut number = 0u64;
-    for &byte in bytes {
-        number = number << 8 | u64::from(byte);
-    }
-    Ok((number >> (end.next_multiple_of(8) - end) & ((1 << width) - 1)) as u32)
-}
-
-/// A field from `least` up to, and without, `bound`; else refused with `number` at its start.
-#[inline(always)]
-fn ranged(
-    image: &[u8],
-    at: usize,
-    width: usize,
-    (least, bound): (u32, u32),
-    number: u32,
-) -> Result<u32, Refusal> {
-    let value = field(image, at, width)?;
-    if least <= value && value < bound {
-        Ok(value)
-    } else {
-        Err((number, at as u64))
-    }
-}
-
 /// Reads an image into a table that holds nothing yet.
 pub fn read(image: &[u8], table: &mut Table) -> Result<(), Refusal> {
     ranged(image, 0, 4, (1, 2), 2)?;
@@ -92,13 +61,14 @@ pub fn read(image: &[u8], table: &mut Table) -> Result<(), Refusal> {
         table.readers[label] = readers;
         at += 37;
     }
+    let links = linked(&table.writer[..table.labels]);
     for chain in 0..table.chains {
         let length = ranged(image, at, 4, (2, 9), 8)?;
         table.length[chain] = length;
         at += 4;
         for step in 0..length as usize {
             let task = ranged(image, at, 5, (0, tasks), 8)?;
-            if step > 0 && !joined(table, table.rows[chain][step - 1], task) {
+            if step > 0 && !joined(table, &links, table.rows[chain][step - 1], task) {
                 return Err((8, at as u64));
             }
             table.rows[chain][step] = task;
@@ -110,40 +80,4 @@ pub fn read(image: &[u8], table: &mut Table) -> Result<(), Refusal> {
         0..=1_000_000 => Ok(()),
         _ => Err((10, 0)),
     }
-}
-
-/// Whether some label goes from the one task to the other; no branch between the tests is fastest.
-fn joined(table: &Table, writer: u32, reader: u32) -> bool {
-    let mark = 1 << (31 - reader);
-    let writers = &table.writer[..table.labels];
-    let readers = &table.readers[..table.labels];
-    writers.iter().zip(readers).any(|(&by, &to)| (by == writer) & (to & mark != 0))
-}
-
-/// The fill after the last field, and nothing after it.
-fn check_end(image: &[u8], at: usize) -> Result<(), Refusal> {
-    let end = at.next_multiple_of(8);
-    for bit in at..end {
-        ranged(image, bit, 1, (0, 1), 9)?;
-    }
-    if image.len() > end / 8 {
-        return Err((9, end as u64));
-    }
-    Ok(())
-}
-
-/// The least common multiple, or some number above 1,000,000 where it is above.
-fn hyperperiod(periods: &[u32]) -> u64 {
-    let mut common = 1;
-    for &period in periods {
-        let (mut a, mut b) = (common, u64::from(period));
-        while b > 0 {
-            (a, b) = (b, a % b);
-        }
-        common = common / a * u64::from(period);
-        if common > 1_000_000 {
-            break;
-        }
-    }
-    common
 }
