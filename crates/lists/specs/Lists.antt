@@ -1,6 +1,6 @@
 -- Searches and collections over the numbers below a bound. Document 01 counts tasks, labels, chains, ticks and n from
 -- 0; where it says "at least one", "each" or "by rising", the definitions say `someBelow`, `someOf`, `eachBelow` and
--- `eachOf`. Assumes nothing.
+-- `eachOf`. No sentence of it needs `lastBelow`, at which a search may begin. Assumes nothing.
 use Prim.Native.Nat.{ℕ, zero, suc, _-_}
 use mathlib.Core.Bool.{Bool, false, cond, _||_}
 use mathlib.Core.List.{List, [], _∷_, _++_}

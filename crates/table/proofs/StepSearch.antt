@@ -12,13 +12,12 @@ use Rattle.outcomes.specs.Outcome.{gives, refuses}
 use Rattle.table.specs.Reading.{field}
 use Rattle.table.specs.Refusals.{numberOf}
 use Rattle.table.specs.Table.{marks}
-use Rattle.table.specs.Linked.{Searched, InEach}
+use Rattle.table.specs.Linked.{InEachSearched}
 use Rattle.table.specs.Parts.{StepsTaken}
 use Rattle.table.specs.declared.Answer.{Answer}
 use Rattle.table.specs.declared.Answer.the-variants.{Refused}
 use Rattle.table.specs.declared.Refusal.{Refusal}
 use Rattle.table.specs.declared.Refusal.the-variants as refusal
-use Rattle.table.specs.declared.Table.{Table}
 use Rattle.table.proofs.Checks.{field-checks}
 use Rattle.table.proofs.ChainSteps.{StepsPassed, step-passed, steps-refused, steps-unjoined}
 use Rattle.table.proofs.LabelSearch.{Searching, search-begins, search-goes-on, search-finds, search-ends}
@@ -30,30 +29,26 @@ number-few image at next {tasks} {x} few taken =
     let known = ltb-true x tasks (field-checks 5 8 (λ v. ltb v tasks) _ _ _ taken) in
     omega arith
 
--- in each table of which the search is given this
-abbrev Given : (tasks : ℕ) (readers latest before : List ℕ) → (Table → Type 0) → Type 0
-Given tasks readers latest before P = InEach (Searched tasks readers latest before) P
-
 module _ {tasks : ℕ} {readers latest before : List ℕ} where
   -- The search for a label from task w to task r.
   pub begun : {w r : ℕ} → w < 32
-      → Given tasks readers latest before (λ table. Searching table w r (getD latest w 0))
+      → InEachSearched tasks readers latest before (λ table. Searching table w r (getD latest w 0))
   begun known table searched = search-begins table _ _ (searched .linked) known
 
-  pub gone-on : {w r l : ℕ} → Given tasks readers latest before (λ table. Searching table w r l) → 0 < l
+  pub gone-on : {w r l : ℕ} → InEachSearched tasks readers latest before (λ table. Searching table w r l) → 0 < l
       → marks (getD readers (l - 1) 0) r ≡ false
-      → Given tasks readers latest before (λ table. Searching table w r (getD before (l - 1) 0))
+      → InEachSearched tasks readers latest before (λ table. Searching table w r (getD before (l - 1) 0))
   gone-on {l = l} searching more unmarked table searched =
       search-goes-on table _ _ (searched .linked) (l - 1) (omega arith) (searching table searched)
       (rw (searched .readers-same) unmarked)
 
   -- The number after j that were passed.
   module _ {image : List ℕ} {at j : ℕ} {row : List ℕ} {last : ℕ}
-      (passed : Given tasks readers latest before (λ table. StepsPassed image at table j row last)) where
+      (passed : InEachSearched tasks readers latest before (λ table. StepsPassed image at table j row last)) where
     -- it is not a task, or the image ends
     pub number-refused : (count : ℕ) → j < count → (answer : Answer) (r : Refusal) (p : ℕ) → answer ≡ Refused r p
         → field 5 8 (λ v. ltb v tasks) image (at + 5 * j) ≡ refuses (numberOf r) p
-        → Given tasks readers latest before
+        → InEachSearched tasks readers latest before
         (λ table. StepsTaken image at table count (record { answer = answer; row = row }))
     number-refused count more answer r p told refused table searched =
         steps-refused _ _ _ (passed table searched) count more answer r p told (rw (searched .tasks-same) refused)
@@ -62,15 +57,16 @@ module _ {tasks : ℕ} {readers latest before : List ℕ} where
         ≡ gives (record { value = x; next = at + 5 * j + 5 })) where
       -- it is the first, which ends no step
       pub first-passed : j ≡ 0
-          → Given tasks readers latest before (λ table. StepsPassed image at table (j + 1) (set row j x) x)
+          → InEachSearched tasks readers latest before (λ table. StepsPassed image at table (j + 1) (set row j x) x)
       first-passed none table searched =
           let before = passed table searched in
           step-passed _ _ _ before x room (rw (searched .tasks-same) taken) (before .first none x)
 
       -- its label was found
-      pub step-joined : 0 < j → {l : ℕ} → Given tasks readers latest before (λ table. Searching table last x l) → 0 < l
+      pub step-joined : 0 < j → {l : ℕ}
+          → InEachSearched tasks readers latest before (λ table. Searching table last x l) → 0 < l
           → marks (getD readers (l - 1) 0) x ≡ true
-          → Given tasks readers latest before (λ table. StepsPassed image at table (j + 1) (set row j x) x)
+          → InEachSearched tasks readers latest before (λ table. StepsPassed image at table (j + 1) (set row j x) x)
       step-joined some {l} searching more marked table searched =
           let before = passed table searched in
           step-passed _ _ _ before x room (rw (searched .tasks-same) taken)
@@ -79,9 +75,10 @@ module _ {tasks : ℕ} {readers latest before : List ℕ} where
           (rw (searched .readers-same) marked))
 
       -- no label is left
-      pub step-unjoined : 0 < j → {l : ℕ} → Given tasks readers latest before (λ table. Searching table last x l)
-          → l ≡ 0 → (count : ℕ) → j < count
-          → Given tasks readers latest before (λ table. StepsTaken image at table count
+      pub step-unjoined : 0 < j → {l : ℕ}
+          → InEachSearched tasks readers latest before (λ table. Searching table last x l) → l ≡ 0
+          → (count : ℕ) → j < count
+          → InEachSearched tasks readers latest before (λ table. StepsTaken image at table count
           (record { answer = Refused refusal.Chain (at + 5 * j); row = set row j x }))
       step-unjoined some searching none count more table searched =
           let before = passed table searched in

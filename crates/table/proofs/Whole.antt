@@ -55,26 +55,26 @@ module _ (image : List ℕ) (head : HeadRead) (of-head : headRead head 26 ≡ he
     pub counts-read : Counts (headOf head)
     counts-read = head-counts _ _ _ head-taken
 
+    -- every label was read with a task for its writer
+    few-writers : {answer : Answer} {writer readers : List ℕ} → answer ≡ Accepted
+        → LabelsTaken image (26 + 23 * head .tasks) (head .tasks) (head .labels) answer writer readers
+        → WritersFew writer (head .labels)
+    few-writers {writer = writer} accepted of-labels l known =
+        let values = of-labels .values in
+        let rules = row-checks _ _ (λ before. label-rules (head .tasks)) (head .labels) _ _ _
+        (taken _ accepted (of-labels .said)) in
+        let inside : l < length values = omega (arith, rules .0) in
+        let held : getD writer l 0 ≡ getD values l no-label .writer =
+        rw (of-labels .held-first) (padded-at 64 0 (λ label. label .writer) values no-label 0 l inside) in
+        let task = all-within _ values no-label (rules .1) l inside .writer in
+        omega (arith, held, task, counts-read .tasks)
+
     module _ {answer : Answer} {core period : List ℕ}
         (of-tasks : TasksTaken image 26 (head .cores) (head .tasks) answer core period) where
       pub tasks-refused : (r : Refusal) {p : ℕ} → answer ≡ Refused r p
           → allFields image 0 ≡ refuses (numberOf r) p
       unfolding allFields
       tasks-refused r told = rw (head-taken, not-taken _ r told (of-tasks .said))
-
-      -- every label was read with a task for its writer
-      few-writers : {answer : Answer} {writer readers : List ℕ} → answer ≡ Accepted
-          → LabelsTaken image (26 + 23 * head .tasks) (head .tasks) (head .labels) answer writer readers
-          → WritersFew writer (head .labels)
-      few-writers {writer = writer} accepted of-labels l known =
-          let values = of-labels .values in
-          let rules = row-checks _ _ (λ before. label-rules (head .tasks)) (head .labels) _ _ _
-          (taken _ accepted (of-labels .said)) in
-          let inside : l < length values = omega (arith, rules .0) in
-          let held : getD writer l 0 ≡ getD values l no-label .writer =
-          rw (of-labels .held-first) (padded-at 64 0 (λ label. label .writer) values no-label 0 l inside) in
-          let task = all-within _ values no-label (rules .1) l inside .writer in
-          omega (arith, held, task, counts-read .tasks)
 
       -- the labels' answer is that of the body
       pub body-read : {of-last : Answer} {writer readers : List ℕ} → answer ≡ Accepted

@@ -33,12 +33,17 @@ pub record Labelled (tasks labels : ℕ) (writer readers : List ℕ) (table : Ta
   pub writer-same : table .writer ≡ writer
   pub readers-same : table .readers ≡ readers
 
--- what the search for a step's label is given of it: the labels linked by their writers
+-- so in each table of which this is given
+abbrev pub InEachLabelled : (tasks labels : ℕ) (writer readers : List ℕ) → (Table → Type 0) → Type 0
+InEachLabelled tasks labels writer readers P = (table : Table) → Labelled tasks labels writer readers table → P table
+
+-- what the search for a step's label is given of a table: how many tasks it has, its readers, and its labels linked by
+-- their writers
 pub record Searched (tasks : ℕ) (readers latest before : List ℕ) (table : Table) : Type 0 where
   pub tasks-same : table .tasks ≡ tasks
   pub readers-same : table .readers ≡ readers
   pub linked : Linked (table .writer) (table .labels) latest before
 
--- in each table of which this is given
-abbrev pub InEach : (Table → Type 0) → (Table → Type 0) → Type 0
-InEach given P = (table : Table) → given table → P table
+-- so in each table of which this is given
+abbrev pub InEachSearched : (tasks : ℕ) (readers latest before : List ℕ) → (Table → Type 0) → Type 0
+InEachSearched tasks readers latest before P = (table : Table) → Searched tasks readers latest before table → P table

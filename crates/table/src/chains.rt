@@ -4,7 +4,7 @@ ghost use mathlib.Core.List.{[]};
 ghost use Prim.Native.Nat.{_≤_};
 ghost use lib.ListN.{replicate};
 ghost use Rattle.table.specs.Image.{rowsOf};
-ghost use Rattle.table.specs.Linked.{WritersFew, Falling, Searched, Labelled, InEach};
+ghost use Rattle.table.specs.Linked.{WritersFew, Falling, InEachSearched, InEachLabelled};
 ghost use Rattle.table.specs.Parts.{ChainTaken, ChainsTaken};
 use crate::Answer;
 use crate::Refusal;
@@ -24,7 +24,7 @@ fn read_chain(
     before: &[u8; 64],
 ) -> ChainRead
     requires { ⌜ (at ≤ 65000) × (tasks ≤ 32) × Falling (now latest) (now before) ⌝ }
-    ensures { λ r. ⌜ InEach (Searched tasks (now (readers .entry)) (now (latest .entry)) (now (before .entry)))
+    ensures { λ r. ⌜ InEachSearched tasks (now (readers .entry)) (now (latest .entry)) (now (before .entry))
         (λ table. ChainTaken (now (image .entry)) at table r) ⌝ }
 {
     let length = ranged(image, at, 4, 2, 9, Refusal::Chain);
@@ -68,7 +68,7 @@ pub(crate) fn read_chains(
 ) -> ChainsRead
     requires { ⌜ (at ≤ 4096) × (tasks ≤ 32) × (labels ≤ 64) × WritersFew (now writer) labels × (chains ≤ 16)
         × (now length ≡ replicate 16 0) × (now rows ≡ rowsOf []) ⌝ }
-    ensures { λ r. ⌜ InEach (Labelled tasks labels (now (writer .entry)) (now (readers .entry)))
+    ensures { λ r. ⌜ InEachLabelled tasks labels (now (writer .entry)) (now (readers .entry))
         (λ table. ChainsTaken (now (image .entry)) at table chains r (now (length .exit)) (now (rows .exit))) ⌝ }
 {
     let mut latest = [0u8; 32];

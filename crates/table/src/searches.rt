@@ -4,7 +4,7 @@ ghost use mathlib.Core.Path.{_≡_};
 ghost use Prim.Native.Nat.{_+_, _≤_};
 ghost use lib.Dec.{ltb};
 ghost use Rattle.table.specs.Reading.{field};
-ghost use Rattle.table.specs.Linked.{Falling, Searched, InEach};
+ghost use Rattle.table.specs.Linked.{Falling, InEachSearched};
 ghost use Rattle.table.specs.Parts.{got, StepsTaken};
 use crate::Answer;
 use crate::Refusal;
@@ -31,7 +31,7 @@ pub(crate) fn read_steps(
     length: usize,
 ) -> StepsRead
     requires { ⌜ (at ≤ 65535) × (tasks ≤ 32) × (length ≤ 8) × Falling (now latest) (now before) ⌝ }
-    ensures { λ r. ⌜ InEach (Searched tasks (now (readers .entry)) (now (latest .entry)) (now (before .entry)))
+    ensures { λ r. ⌜ InEachSearched tasks (now (readers .entry)) (now (latest .entry)) (now (before .entry))
         (λ table. StepsTaken (now (image .entry)) at table length r) ⌝ }
 {
     let mut row = [0u32; 8];

@@ -9,38 +9,8 @@ use Rattle.bits.proofs.Reached.{found-ends, found-value, found-cut}
 use Rattle.bits.proofs.field_at.Statement.{statement}
 use Rattle.bits.proofs.field_at.Tie as tie
 
-capped-requires : tie.Need-capped-requires
-capped-requires c κs = search needs
-
-add-count : tie.Need-add-count
-add-count c = search needs
-
-add-count-2 : tie.Need-add-count-2
-add-count-2 c = search needs
-
-add-if1 : tie.Need-add-if1
-add-if1 c = search needs
-
 returns : tie.Need-returns
 returns c = rw (← c .before .capped .ensures) (found-ends _ _ _ (omega arith))
-
-mul-below : tie.Need-mul-below
-mul-below c = search needs
-
-sub-below : tie.Need-sub-below
-sub-below c = search needs
-
-sub-below-2 : tie.Need-sub-below-2
-sub-below-2 c = search needs
-
-bytes-at-requires : tie.Need-bytes-at-requires
-bytes-at-requires c κs = search needs
-
-shr-number : tie.Need-shr-number
-shr-number c = search needs
-
-power-requires : tie.Need-power-requires
-power-requires c κs = search needs
 
 rem-t14 : tie.Need-rem-t14
 rem-t14 c = rw (c .power .ensures) (pow-pos _)
@@ -59,17 +29,17 @@ pub field-at-spec : {M : Type 1} → statement M
 field-at-spec =
     tie.close
     (tie.spec
-    capped-requires
-    add-count
-    add-count-2
-    add-if1
+    (λ c κs. search needs)  -- capped-requires
+    (λ c. search needs)  -- add-count
+    (λ c. search needs)  -- add-count-2
+    (λ c. search needs)  -- add-if1
     returns
-    mul-below
-    sub-below
-    sub-below-2
-    bytes-at-requires
-    shr-number
-    power-requires
+    (λ c. search needs)  -- mul-below
+    (λ c. search needs)  -- sub-below
+    (λ c. search needs)  -- sub-below-2
+    (λ c κs. search needs)  -- bytes-at-requires
+    (λ c. search needs)  -- shr-number
+    (λ c κs. search needs)  -- power-requires
     rem-t14
     cast-t15
     returns-2)

@@ -5,11 +5,12 @@ use lib.Pow.{pow-lt}
 use Rattle.bits.proofs.power.Statement.{statement}
 use Rattle.bits.proofs.power.Tie as tie
 
-shl-result : tie.Need-shl-result
-shl-result c = search needs
-
 returns : tie.Need-returns
 returns c = rw one-mul (mod-eq-of-lt (pow-lt {j = 64} (c .pre)))
 
 pub power-spec : {M : Type 1} → statement M
-power-spec = tie.close (tie.spec shl-result returns)
+power-spec =
+    tie.close
+    (tie.spec
+    (λ c. search needs)  -- shl-result
+    returns)

@@ -9,18 +9,6 @@ use Rattle.printing.proofs.AcceptedRound.{round-of-image}
 use Rattle.printing.proofs.hyperperiod.Statement.{statement}
 use Rattle.printing.proofs.hyperperiod.Tie as tie
 
-read-table-requires : tie.Need-read-table-requires
-read-table-requires c κs = search needs
-
-enum-known-answer : tie.Need-enum-known-answer
-enum-known-answer c = search needs
-
-enum-told : tie.Need-enum-told
-enum-told c = search needs
-
-round-of-requires : tie.Need-round-of-requires
-round-of-requires c κs = search needs
-
 returns : tie.Need-returns
 returns c =
     let read = c .before .before .before .before .read-table in
@@ -36,4 +24,10 @@ returns-2 c = sym (refused-image _ _ (c .before .before .before .read-table .ens
 pub hyperperiod-spec : {M : Type 1} → statement M
 hyperperiod-spec =
     tie.close
-    (tie.spec read-table-requires enum-known-answer enum-told round-of-requires returns returns-2)
+    (tie.spec
+    (λ c κs. search needs)  -- read-table-requires
+    (λ c. search needs)  -- enum-known-answer
+    (λ c. search needs)  -- enum-told
+    (λ c κs. search needs)  -- round-of-requires
+    returns
+    returns-2)

@@ -6,18 +6,6 @@ use Rattle.questions.proofs.Asked.{refused-image, accepted-image}
 use Rattle.questions.proofs.points.Statement.{statement}
 use Rattle.questions.proofs.points.Tie as tie
 
-read-table-requires : tie.Need-read-table-requires
-read-table-requires c κs = search needs
-
-enum-known-answer : tie.Need-enum-known-answer
-enum-known-answer c = search needs
-
-enum-told : tie.Need-enum-told
-enum-told c = search needs
-
-points-of-requires : tie.Need-points-of-requires
-points-of-requires c κs = search needs
-
 returns : tie.Need-returns
 unfolding points
 returns c =
@@ -32,4 +20,10 @@ returns-2 c = sym (refused-image _ _ (c .before .before .before .read-table .ens
 pub points-spec : {M : Type 1} → statement M
 points-spec =
     tie.close
-    (tie.spec read-table-requires enum-known-answer enum-told points-of-requires returns returns-2)
+    (tie.spec
+    (λ c κs. search needs)  -- read-table-requires
+    (λ c. search needs)  -- enum-known-answer
+    (λ c. search needs)  -- enum-told
+    (λ c κs. search needs)  -- points-of-requires
+    returns
+    returns-2)

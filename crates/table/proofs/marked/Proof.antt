@@ -5,15 +5,6 @@ use Rattle.table.specs.Table.{marks}
 use Rattle.table.proofs.marked.Statement.{statement}
 use Rattle.table.proofs.marked.Tie as tie
 
-cast-result : tie.Need-cast-result
-cast-result c = search needs
-
-sub-result : tie.Need-sub-result
-sub-result c = search needs
-
-shr-result : tie.Need-shr-result
-shr-result c = search needs
-
 returns : tie.Need-returns
 unfolding marks
 returns c = rw (lt-ltb _ 32 (c .if1 .taken))
@@ -23,4 +14,11 @@ unfolding marks
 returns-2 c = rw (le-ltb _ 32 (c .if1 .left))
 
 pub marked-spec : {M : Type 1} → statement M
-marked-spec = tie.close (tie.spec cast-result sub-result shr-result returns returns-2)
+marked-spec =
+    tie.close
+    (tie.spec
+    (λ c. search needs)  -- cast-result
+    (λ c. search needs)  -- sub-result
+    (λ c. search needs)  -- shr-result
+    returns
+    returns-2)

@@ -12,12 +12,6 @@ read-all-requires : tie.Need-read-all-requires
 unfolding rowsOf padded
 read-all-requires c κs = refl
 
-enum-told : tie.Need-enum-told
-enum-told c = search needs
-
-enum-told-2 : tie.Need-enum-told-2
-enum-told-2 c = search needs
-
 returns : tie.Need-returns
 unfolding shownOf acceptedOr nothing rowsOf padded
 returns c = rw (not-taken _ _ (c .enum-told2 .given .1) (c .before .before .read-all .ensures .said))
@@ -27,4 +21,11 @@ unfolding shownOf acceptedOr
 returns-2 c = rw (taken _ (c .enum-told .given .1) (c .before .before .read-all .ensures .said))
 
 pub read-rows-spec : {M : Type 1} → statement M
-read-rows-spec = tie.close (tie.spec read-all-requires enum-told enum-told-2 returns returns-2)
+read-rows-spec =
+    tie.close
+    (tie.spec
+    read-all-requires
+    (λ c. search needs)  -- enum-told
+    (λ c. search needs)  -- enum-told-2
+    returns
+    returns-2)

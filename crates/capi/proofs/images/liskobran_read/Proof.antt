@@ -5,18 +5,6 @@ use Rattle.capi.specs.Said.{readSaid}
 use Rattle.capi.proofs.images.liskobran_read.Statement.{statement}
 use Rattle.capi.proofs.images.liskobran_read.Tie as tie
 
-read-table-requires : tie.Need-read-table-requires
-read-table-requires c κs = search needs
-
-enum-told : tie.Need-enum-told
-enum-told c = search needs
-
-enum-known-answer : tie.Need-enum-known-answer
-enum-known-answer c = search needs
-
-number-of-requires : tie.Need-number-of-requires
-number-of-requires c κs = search needs
-
 returns : tie.Need-returns
 unfolding readSaid
 returns c = rw (taken _ (c .enum-told .given .1) (c .before .before .read-table .ensures .answer))
@@ -31,4 +19,10 @@ returns-2 c = rw (
 pub liskobran-read-spec : {M : Type 1} → statement M
 liskobran-read-spec =
     tie.close
-    (tie.spec read-table-requires enum-told enum-known-answer number-of-requires returns returns-2)
+    (tie.spec
+    (λ c κs. search needs)  -- read-table-requires
+    (λ c. search needs)  -- enum-told
+    (λ c. search needs)  -- enum-known-answer
+    (λ c κs. search needs)  -- number-of-requires
+    returns
+    returns-2)

@@ -4,18 +4,6 @@ use Rattle.capi.specs.Said.{pointsSaid}
 use Rattle.capi.proofs.pairs.liskobran_points.Statement.{statement}
 use Rattle.capi.proofs.pairs.liskobran_points.Tie as tie
 
-points-requires : tie.Need-points-requires
-points-requires c κs = search needs
-
-enum-known-answer : tie.Need-enum-known-answer
-enum-known-answer c = search needs
-
-enum-known-answer-2 : tie.Need-enum-known-answer-2
-enum-known-answer-2 c = search needs
-
-number-of-requires : tie.Need-number-of-requires
-number-of-requires c κs = search needs
-
 returns : tie.Need-returns
 unfolding pointsSaid
 returns c = rw (← c .before .before .before .points .ensures, c .before .answer .given .1)
@@ -32,9 +20,9 @@ pub liskobran-points-spec : {M : Type 1} → statement M
 liskobran-points-spec =
     tie.close
     (tie.spec
-    points-requires
-    enum-known-answer
-    enum-known-answer-2
-    number-of-requires
+    (λ c κs. search needs)  -- points-requires
+    (λ c. search needs)  -- enum-known-answer
+    (λ c. search needs)  -- enum-known-answer-2
+    (λ c κs. search needs)  -- number-of-requires
     returns
     returns-2)

@@ -20,9 +20,6 @@ Inv-loop labels w r writer readers count l₀ l = (l ≤ count) × (someBelow l 
 abbrev μ-loop : tie.MeasureT-loop
 μ-loop labels w r writer readers count l₀ l = count - l
 
-counted-requires : tie.Need-counted-requires Inv-loop μ-loop
-counted-requires c κs = search needs
-
 loop-holds : tie.Need-loop-holds Inv-loop μ-loop
 unfolding someBelow
 loop-holds c = (omega arith, refl)
@@ -38,9 +35,6 @@ mul-goes-2 c = omega arith
 
 array-read-goes-2 : tie.Need-array-read-goes-2 Inv-loop μ-loop
 array-read-goes-2 c = omega arith
-
-goes-requires : tie.Need-goes-requires Inv-loop μ-loop
-goes-requires c κs = search needs
 
 returns : tie.Need-returns Inv-loop μ-loop
 returns c =
@@ -79,13 +73,13 @@ joined-spec =
     (tie.spec
     Inv-loop
     μ-loop
-    counted-requires
+    (λ c κs. search needs)  -- counted-requires
     loop-holds
     mul-goes
     array-read-goes
     mul-goes-2
     array-read-goes-2
-    goes-requires
+    (λ c κs. search needs)  -- goes-requires
     returns
     add-l
     loop-less

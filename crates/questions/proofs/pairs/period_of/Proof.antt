@@ -7,19 +7,16 @@ use lib.ListN.{length, List·getD-eq-default}
 use Rattle.questions.proofs.pairs.period_of.Statement.{statement}
 use Rattle.questions.proofs.pairs.period_of.Tie as tie
 
-mul-result : tie.Need-mul-result
-mul-result c = search needs
-
-array-read-result : tie.Need-array-read-result
-array-read-result c = search needs
-
-returns : tie.Need-returns
-returns c = search needs
-
 returns-2 : tie.Need-returns-2
 returns-2 c =
     let past : length (c .before .args .t1) ≤ c .before .args .i = omega arith in
     sym (List·getD-eq-default (c .before .args .t1) 0 past)
 
 pub period-of-spec : {M : Type 1} → statement M
-period-of-spec = tie.close (tie.spec mul-result array-read-result returns returns-2)
+period-of-spec =
+    tie.close
+    (tie.spec
+    (λ c. search needs)  -- mul-result
+    (λ c. search needs)  -- array-read-result
+    (λ c. search needs)  -- returns
+    returns-2)

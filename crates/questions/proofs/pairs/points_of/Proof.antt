@@ -20,12 +20,6 @@ linked-is : (c : tie.After-joined)
 unfolding joins writerOf reads
 linked-is c = c .joined .ensures
 
-askable-requires : tie.Need-askable-requires
-askable-requires c κs = search needs
-
-joined-requires : tie.Need-joined-requires
-joined-requires c κs = search needs
-
 returns : tie.Need-returns
 returns c = sym (not-askable _ _ _ _ (sym (known-is (c .before)) ∙ not-true _ (c .if1 .taken)))
 
@@ -33,12 +27,6 @@ returns-2 : tie.Need-returns-2
 returns-2 c =
     sym (not-joined _ _ _ _ (sym (known-is (c .before .before)) ∙ not-false _ (c .before .if1 .left))
     (sym (linked-is (c .before .before)) ∙ not-true _ (c .if2 .taken)))
-
-period-of-requires : tie.Need-period-of-requires
-period-of-requires c κs = search needs
-
-period-of-requires-2 : tie.Need-period-of-requires-2
-period-of-requires-2 c κs = search needs
 
 cast-number : tie.Need-cast-number
 cast-number c =
@@ -49,12 +37,6 @@ cast-number c =
       n-within (args .table) (args .writer) (args .reader) (args .n)
           (sym (known-is joined) ∙ not-false _ (c .before .before .before .if1 .left)),
     )
-
-publishing-requires : tie.Need-publishing-requires
-publishing-requires c κs = search needs
-
-reading-requires : tie.Need-reading-requires
-reading-requires c κs = search needs
 
 returns-3 : tie.Need-returns-3
 unfolding timingOf periodOf
@@ -73,13 +55,13 @@ pub points-of-spec : {M : Type 1} → statement M
 points-of-spec =
     tie.close
     (tie.spec
-    askable-requires
-    joined-requires
+    (λ c κs. search needs)  -- askable-requires
+    (λ c κs. search needs)  -- joined-requires
     returns
     returns-2
-    period-of-requires
-    period-of-requires-2
+    (λ c κs. search needs)  -- period-of-requires
+    (λ c κs. search needs)  -- period-of-requires-2
     cast-number
-    publishing-requires
-    reading-requires
+    (λ c κs. search needs)  -- publishing-requires
+    (λ c κs. search needs)  -- reading-requires
     returns-3)

@@ -30,15 +30,6 @@ length-bounds : (c : tie.After-enum-told)
     → (2 ≤ c .before .before .ranged .result .value) × (c .before .before .ranged .result .value ≤ 8)
 length-bounds c = between-bounds 2 8 _ (field-checks 4 8 _ _ _ _ (length-taken c))
 
-ranged-requires : tie.Need-ranged-requires
-ranged-requires c κs = search needs
-
-enum-told : tie.Need-enum-told
-enum-told c = search needs
-
-enum-told-2 : tie.Need-enum-told-2
-enum-told-2 c = search needs
-
 returns : tie.Need-returns
 unfolding chainFields padded
 returns c table searched =
@@ -50,12 +41,6 @@ returns c table searched =
       few = omega arith;
       held = refl;
     }
-
-add-read-steps : tie.Need-add-read-steps
-add-read-steps c = search needs
-
-cast-read-steps : tie.Need-cast-read-steps
-cast-read-steps c = search needs
 
 read-steps-requires : tie.Need-read-steps-requires
 read-steps-requires c κs =
@@ -81,11 +66,11 @@ pub read-chain-spec : {M : Type 1} → statement M
 read-chain-spec =
     tie.close
     (tie.spec
-    ranged-requires
-    enum-told
-    enum-told-2
+    (λ c κs. search needs)  -- ranged-requires
+    (λ c. search needs)  -- enum-told
+    (λ c. search needs)  -- enum-told-2
     returns
-    add-read-steps
-    cast-read-steps
+    (λ c. search needs)  -- add-read-steps
+    (λ c. search needs)  -- cast-read-steps
     read-steps-requires
     returns-2)

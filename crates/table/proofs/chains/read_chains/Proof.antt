@@ -5,7 +5,7 @@ use mathlib.Core.Path.{refl}
 use mathlib.Core.List.{[]}
 use native.Mathlib.Omega.{arith}
 use Rattle.lists.specs.Lists.{padded}
-use Rattle.table.specs.Linked.{Labelled, Searched, InEach}
+use Rattle.table.specs.Linked.{Searched, InEachLabelled}
 use Rattle.table.specs.declared.Table.{Table}
 use Rattle.table.proofs.Steps.{taken, not-taken}
 use Rattle.table.proofs.ChainRows.{ChainsPassed, no-chain-passed, chain-passed, chains-refused, chains-whole}
@@ -16,7 +16,7 @@ use Rattle.table.proofs.chains.read_chains.Tie as tie
 abbrev Inv-loop : tie.InvT-loop
 Inv-loop image at tasks labels writer readers chains length₀ rows₀ latest before next₀ k₀ length rows next k =
     (k ≤ chains)
-    × InEach (Labelled tasks labels writer readers) (λ table. ChainsPassed image at table k length rows next)
+    × InEachLabelled tasks labels writer readers (λ table. ChainsPassed image at table k length rows next)
 
 abbrev μ-loop : tie.MeasureT-loop
 μ-loop image at tasks labels writer readers chains length₀ rows₀ latest before next₀ k₀ length rows next k = chains - k
@@ -24,7 +24,7 @@ abbrev μ-loop : tie.MeasureT-loop
 -- the search is given such a table's own tasks, readers and links
 searched : (c : tie.After-link Inv-loop μ-loop)
     → let args = c .before .before .before .before .args in
-    InEach (Labelled (args .tasks) (args .labels) (args .writer .now) (args .readers .now))
+    InEachLabelled (args .tasks) (args .labels) (args .writer .now) (args .readers .now)
     (Searched (args .tasks) (args .readers .now) (c .link .last .1 .1 .0) (c .link .last .1 .1 .1 .0))
 searched c table given = with-links given (c .link .ensures .0)
 

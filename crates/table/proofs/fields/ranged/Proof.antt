@@ -6,15 +6,6 @@ use Rattle.table.proofs.FieldLaws.{field-ends, field-right, field-wrong
 use Rattle.table.proofs.fields.ranged.Statement.{statement}
 use Rattle.table.proofs.fields.ranged.Tie as tie
 
-field-at-requires : tie.Need-field-at-requires
-field-at-requires c κs = search needs
-
-enum-known-found : tie.Need-enum-known-found
-enum-known-found c = search needs
-
-enum-told : tie.Need-enum-told
-enum-told c = search needs
-
 returns : tie.Need-returns
 returns c = field-ends _ _ _ _ _ _ (c .before .before .field-at .ensures) (c .enum-told .given .1)
 
@@ -39,4 +30,11 @@ returns-4 c =
 pub ranged-spec : {M : Type 1} → statement M
 ranged-spec =
     tie.close
-    (tie.spec field-at-requires enum-known-found enum-told returns returns-2 returns-3 returns-4)
+    (tie.spec
+    (λ c κs. search needs)  -- field-at-requires
+    (λ c. search needs)  -- enum-known-found
+    (λ c. search needs)  -- enum-told
+    returns
+    returns-2
+    returns-3
+    returns-4)

@@ -8,33 +8,6 @@ use Rattle.table.proofs.Steps.{field-after, last-after, range-is-betwee
 use Rattle.table.proofs.heads.read_head.Statement.{statement}
 use Rattle.table.proofs.heads.read_head.Tie as tie
 
-ranged-requires : tie.Need-ranged-requires
-ranged-requires c κs = search needs
-
-ranged-after-requires : tie.Need-ranged-after-requires
-ranged-after-requires c κs = search needs
-
-ranged-after-requires-2 : tie.Need-ranged-after-requires-2
-ranged-after-requires-2 c κs = search needs
-
-ranged-after-requires-3 : tie.Need-ranged-after-requires-3
-ranged-after-requires-3 c κs = search needs
-
-ranged-after-requires-4 : tie.Need-ranged-after-requires-4
-ranged-after-requires-4 c κs = search needs
-
-cast-t9 : tie.Need-cast-t9
-cast-t9 c = search needs
-
-cast-t10 : tie.Need-cast-t10
-cast-t10 c = search needs
-
-cast-t11 : tie.Need-cast-t11
-cast-t11 c = search needs
-
-cast-t12 : tie.Need-cast-t12
-cast-t12 c = search needs
-
 returns : tie.Need-returns
 unfolding headFields
 returns c =
@@ -60,13 +33,13 @@ pub read-head-spec : {M : Type 1} → statement M
 read-head-spec =
     tie.close
     (tie.spec
-    ranged-requires
-    ranged-after-requires
-    ranged-after-requires-2
-    ranged-after-requires-3
-    ranged-after-requires-4
-    cast-t9
-    cast-t10
-    cast-t11
-    cast-t12
+    (λ c κs. search needs)  -- ranged-requires
+    (λ c κs. search needs)  -- ranged-after-requires
+    (λ c κs. search needs)  -- ranged-after-requires-2
+    (λ c κs. search needs)  -- ranged-after-requires-3
+    (λ c κs. search needs)  -- ranged-after-requires-4
+    (λ c. search needs)  -- cast-t9
+    (λ c. search needs)  -- cast-t10
+    (λ c. search needs)  -- cast-t11
+    (λ c. search needs)  -- cast-t12
     returns)

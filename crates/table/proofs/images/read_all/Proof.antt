@@ -11,35 +11,11 @@ use Rattle.table.proofs.WholeImage.{whole-refused, field-refuses-whole,
 use Rattle.table.proofs.images.read_all.Statement.{statement}
 use Rattle.table.proofs.images.read_all.Tie as tie
 
-read-fields-requires : tie.Need-read-fields-requires
-read-fields-requires c κs = search needs
-
-enum-told : tie.Need-enum-told
-enum-told c = search needs
-
-enum-told-2 : tie.Need-enum-told-2
-enum-told-2 c = search needs
-
-no-table-requires : tie.Need-no-table-requires
-no-table-requires c κs = search needs
-
 returns : tie.Need-returns
 returns c =
     let told = c .before .enum-told2 .given .1 in
     whole-refused _ _ _ _ _ (c .no-table .ensures) told
     (field-refuses-whole _ (not-taken _ _ told (c .before .before .before .read-fields .ensures .said)))
-
-hyperperiod-requires : tie.Need-hyperperiod-requires
-hyperperiod-requires c κs = search needs
-
-enum-told-3 : tie.Need-enum-told-3
-enum-told-3 c = search needs
-
-enum-told-4 : tie.Need-enum-told-4
-enum-told-4 c = search needs
-
-no-table-requires-2 : tie.Need-no-table-requires-2
-no-table-requires-2 c κs = search needs
 
 returns-2 : tie.Need-returns-2
 unfolding hyperperiodOf
@@ -62,14 +38,14 @@ pub read-all-spec : {M : Type 1} → statement M
 read-all-spec =
     tie.close
     (tie.spec
-    read-fields-requires
-    enum-told
-    enum-told-2
-    no-table-requires
+    (λ c κs. search needs)  -- read-fields-requires
+    (λ c. search needs)  -- enum-told
+    (λ c. search needs)  -- enum-told-2
+    (λ c κs. search needs)  -- no-table-requires
     returns
-    hyperperiod-requires
-    enum-told-3
-    enum-told-4
-    no-table-requires-2
+    (λ c κs. search needs)  -- hyperperiod-requires
+    (λ c. search needs)  -- enum-told-3
+    (λ c. search needs)  -- enum-told-4
+    (λ c κs. search needs)  -- no-table-requires-2
     returns-2
     returns-3)

@@ -28,35 +28,11 @@ writer-taken : (c : tie.After-enum-told)
     ≡ gives (record { value = c .before .before .ranged .result .value; next = start .args .at + 5 })
 writer-taken c = taken _ (c .enum-told .given .1) (writer-said (c .before .before))
 
-ranged-requires : tie.Need-ranged-requires
-ranged-requires c κs = search needs
-
-enum-told : tie.Need-enum-told
-enum-told c = search needs
-
-enum-told-2 : tie.Need-enum-told-2
-enum-told-2 c = search needs
-
 returns : tie.Need-returns
 unfolding labelFields
 returns c =
     let told = c .enum-told2 .given .1 in
     still-refused _ _ told ∙ sym (rw (not-taken _ _ told (writer-said (c .before .before))))
-
-add-field-at : tie.Need-add-field-at
-add-field-at c = search needs
-
-field-at-requires : tie.Need-field-at-requires
-field-at-requires c κs = search needs
-
-enum-known-found : tie.Need-enum-known-found
-enum-known-found c = search needs
-
-enum-told-3 : tie.Need-enum-told-3
-enum-told-3 c = search needs
-
-add-t11 : tie.Need-add-t11
-add-t11 c = search needs
 
 returns-2 : tie.Need-returns-2
 unfolding labelFields
@@ -71,9 +47,6 @@ right-readers-requires c κs = (
   omega arith,
   ltb-true _ _ (field-checks 5 6 _ _ _ _ (writer-taken (c .before .before .before .before))),
 )
-
-add-t17 : tie.Need-add-t17
-add-t17 c = search needs
 
 returns-3 : tie.Need-returns-3
 unfolding labelFields
@@ -102,17 +75,17 @@ pub read-label-spec : {M : Type 1} → statement M
 read-label-spec =
     tie.close
     (tie.spec
-    ranged-requires
-    enum-told
-    enum-told-2
+    (λ c κs. search needs)  -- ranged-requires
+    (λ c. search needs)  -- enum-told
+    (λ c. search needs)  -- enum-told-2
     returns
-    add-field-at
-    field-at-requires
-    enum-known-found
-    enum-told-3
-    add-t11
+    (λ c. search needs)  -- add-field-at
+    (λ c κs. search needs)  -- field-at-requires
+    (λ c. search needs)  -- enum-known-found
+    (λ c. search needs)  -- enum-told-3
+    (λ c. search needs)  -- add-t11
     returns-2
     right-readers-requires
-    add-t17
+    (λ c. search needs)  -- add-t17
     returns-3
     returns-4)

@@ -7,23 +7,21 @@ use Rattle.table.proofs.Readers.{readers-past, readers-own, shifted-pas
 use Rattle.table.proofs.labels.right_readers.Statement.{statement}
 use Rattle.table.proofs.labels.right_readers.Tie as tie
 
-shl-past : tie.Need-shl-past
-shl-past c = search needs
-
 returns : tie.Need-returns
 returns c = readers-past _ _ _ (c .before .pre .0) (c .before .pre .1)
     (λ none. c .if1 .taken
     (shifted-past _ _ (c .before .pre .0) (c .before .fits .readers .fits) ∙ rw none (zero-mul _)))
-
-sub-own : tie.Need-sub-own
-sub-own c = search needs
-
-shr-own : tie.Need-shr-own
-shr-own c = search needs
 
 returns-2 : tie.Need-returns-2
 returns-2 c = readers-own _ _ _ (c .before .pre .0) (c .before .pre .1)
     (none-past _ _ (c .before .pre .0) (c .before .fits .readers .fits) (c .if1 .left))
 
 pub right-readers-spec : {M : Type 1} → statement M
-right-readers-spec = tie.close (tie.spec shl-past returns sub-own shr-own returns-2)
+right-readers-spec =
+    tie.close
+    (tie.spec
+    (λ c. search needs)  -- shl-past
+    returns
+    (λ c. search needs)  -- sub-own
+    (λ c. search needs)  -- shr-own
+    returns-2)

@@ -4,11 +4,12 @@ use Rattle.table.proofs.Steps.{by-test, range-is-below}
 use Rattle.table.proofs.searches.read_number.Statement.{statement}
 use Rattle.table.proofs.searches.read_number.Tie as tie
 
-ranged-requires : tie.Need-ranged-requires
-ranged-requires c κs = search needs
-
 returns : tie.Need-returns
 returns c = by-test _ _ _ _ (range-is-below _) (c .ranged .ensures)
 
 pub read-number-spec : {M : Type 1} → statement M
-read-number-spec = tie.close (tie.spec ranged-requires returns)
+read-number-spec =
+    tie.close
+    (tie.spec
+    (λ c κs. search needs)  -- ranged-requires
+    returns)

@@ -10,7 +10,7 @@ use lib.ListN.{getD}
 use Rattle.lists.specs.Lists.{padded}
 use Rattle.outcomes.specs.Outcome.{gives}
 use Rattle.table.specs.Reading.{field}
-use Rattle.table.specs.Linked.{Searched, InEach}
+use Rattle.table.specs.Linked.{InEachSearched}
 use Rattle.table.proofs.Steps.{taken, not-taken}
 use Rattle.table.proofs.ChainSteps.{StepsPassed, none-passed, steps-whole}
 use Rattle.table.proofs.LabelSearch.{Searching}
@@ -21,7 +21,7 @@ use Rattle.table.proofs.searches.read_steps.Tie as tie
 
 abbrev Inv-loop : tie.InvT-loop
 Inv-loop image at tasks readers latest before length row last j place earlier l₀ l =
-    (l ≤ 64) × InEach (Searched tasks readers latest before) (λ table. Searching table earlier last l)
+    (l ≤ 64) × InEachSearched tasks readers latest before (λ table. Searching table earlier last l)
 
 abbrev μ-loop : tie.MeasureT-loop
 μ-loop image at tasks readers latest before length row last j place earlier l₀ l = l
@@ -30,7 +30,7 @@ abbrev Inv-steps : tie.InvT-steps
 Inv-steps image at tasks readers latest before length row₀ last₀ j₀ row last j =
     (j ≤ length)
     × (last < 32)
-    × InEach (Searched tasks readers latest before) (λ table. StepsPassed image at table j row last)
+    × InEachSearched tasks readers latest before (λ table. StepsPassed image at table j row last)
 
 abbrev μ-steps : tie.MeasureT-steps
 μ-steps image at tasks readers latest before length row₀ last₀ j₀ row last j = length - j

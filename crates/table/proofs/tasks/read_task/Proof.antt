@@ -10,15 +10,6 @@ use Rattle.table.proofs.Steps.{field-after, last-after, range-is-below,
 use Rattle.table.proofs.tasks.read_task.Statement.{statement}
 use Rattle.table.proofs.tasks.read_task.Tie as tie
 
-ranged-requires : tie.Need-ranged-requires
-ranged-requires c κs = search needs
-
-add-ranged-after : tie.Need-add-ranged-after
-add-ranged-after c = search needs
-
-ranged-after-requires : tie.Need-ranged-after-requires
-ranged-after-requires c κs = search needs
-
 returns : tie.Need-returns
 unfolding taskFields
 returns c =
@@ -35,4 +26,10 @@ returns c =
     ∙ last-after (c .ranged-after .result .answer) _))
 
 pub read-task-spec : {M : Type 1} → statement M
-read-task-spec = tie.close (tie.spec ranged-requires add-ranged-after ranged-after-requires returns)
+read-task-spec =
+    tie.close
+    (tie.spec
+    (λ c κs. search needs)  -- ranged-requires
+    (λ c. search needs)  -- add-ranged-after
+    (λ c κs. search needs)  -- ranged-after-requires
+    returns)

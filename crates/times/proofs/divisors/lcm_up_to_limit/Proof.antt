@@ -17,9 +17,6 @@ returns c =
     let b = c .before .args .b in
     omega (arith, ap (λ (k : ℕ). lcm k b) (c .if1 .taken) ∙ lcm-zero-left b)
 
-common-divisor-requires : tie.Need-common-divisor-requires
-common-divisor-requires c κs = search needs
-
 div-multiple : tie.Need-div-multiple
 div-multiple c =
     let a = c .before .before .args .a in
@@ -31,9 +28,6 @@ mul-multiple c =
     let quotient = div-le-self a (c .common-divisor .result) in
     let b = c .before .before .args .b in
     omega (arith, product-at-most (a / c .common-divisor .result) b (omega arith) (omega arith))
-
-cast-result : tie.Need-cast-result
-cast-result c = search needs
 
 -- what is computed is the least common multiple
 multiple-is-lcm
@@ -54,4 +48,11 @@ returns-3 c = omega (arith, multiple-is-lcm (c .before))
 pub lcm-up-to-limit-spec : {M : Type 1} → statement M
 lcm-up-to-limit-spec =
     tie.close
-    (tie.spec returns common-divisor-requires div-multiple mul-multiple cast-result returns-2 returns-3)
+    (tie.spec
+    returns
+    (λ c κs. search needs)  -- common-divisor-requires
+    div-multiple
+    mul-multiple
+    (λ c. search needs)  -- cast-result
+    returns-2
+    returns-3)

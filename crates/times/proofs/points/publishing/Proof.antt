@@ -16,21 +16,12 @@ returns c =
     let args = c .before .args in
     sym (publishing-of-zero (every (args .writer-period)) (every (args .reader-period)) (c .if1 .taken) (args .n))
 
-larger-requires : tie.Need-larger-requires
-larger-requires c κs = search needs
-
-cast-result : tie.Need-cast-result
-cast-result c = search needs
-
 -- n·M, as it is computed
 product : (c : tie.After-larger) → c .before .before .args .n * c .larger .result ≤ (2 ^ 32 - 1) * (2 ^ 32 - 1)
 product c = product-at-most (c .before .before .args .n) (c .larger .result) (omega arith) (omega arith)
 
 mul-result : tie.Need-mul-result
 mul-result c = omega (arith, product c)
-
-div-result : tie.Need-div-result
-div-result c = search needs
 
 mul-result-2 : tie.Need-mul-result-2
 mul-result-2 c =
@@ -46,4 +37,11 @@ returns-2 c =
 pub publishing-spec : {M : Type 1} → statement M
 publishing-spec =
     tie.close
-    (tie.spec returns larger-requires cast-result mul-result div-result mul-result-2 returns-2)
+    (tie.spec
+    returns
+    (λ c κs. search needs)  -- larger-requires
+    (λ c. search needs)  -- cast-result
+    mul-result
+    (λ c. search needs)  -- div-result
+    mul-result-2
+    returns-2)

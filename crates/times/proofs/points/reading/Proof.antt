@@ -16,12 +16,6 @@ returns c =
     let args = c .before .args in
     sym (reading-of-zero (every (args .writer-period)) (every (args .reader-period)) (c .if1 .taken) (args .n))
 
-larger-requires : tie.Need-larger-requires
-larger-requires c κs = search needs
-
-cast-result : tie.Need-cast-result
-cast-result c = search needs
-
 -- n·M, as it is computed
 product : (c : tie.After-larger) → c .before .before .args .n * c .larger .result ≤ (2 ^ 32 - 1) * (2 ^ 32 - 1)
 product c = product-at-most (c .before .before .args .n) (c .larger .result) (omega arith) (omega arith)
@@ -29,14 +23,8 @@ product c = product-at-most (c .before .before .args .n) (c .larger .result) (om
 mul-result : tie.Need-mul-result
 mul-result c = omega (arith, product c)
 
-sub-result : tie.Need-sub-result
-sub-result c = search needs
-
 add-result : tie.Need-add-result
 add-result c = omega (arith, product c)
-
-div-result : tie.Need-div-result
-div-result c = search needs
 
 mul-result-2 : tie.Need-mul-result-2
 mul-result-2 c =
@@ -54,11 +42,11 @@ reading-spec =
     tie.close
     (tie.spec
     returns
-    larger-requires
-    cast-result
+    (λ c κs. search needs)  -- larger-requires
+    (λ c. search needs)  -- cast-result
     mul-result
-    sub-result
+    (λ c. search needs)  -- sub-result
     add-result
-    div-result
+    (λ c. search needs)  -- div-result
     mul-result-2
     returns-2)

@@ -18,9 +18,6 @@ Inv-loop tasks period count running₀ i₀ running i = (i ≤ count) × (runnin
 abbrev μ-loop : tie.MeasureT-loop
 μ-loop tasks period count running₀ i₀ running i = count - i
 
-counted-requires : tie.Need-counted-requires Inv-loop μ-loop
-counted-requires c κs = search needs
-
 loop-holds : tie.Need-loop-holds Inv-loop μ-loop
 unfolding lcmOf lcmFrom
 loop-holds c = (omega arith, refl)
@@ -30,9 +27,6 @@ mul-lcm-up-to-limit c = omega arith
 
 array-read-lcm-up-to-limit : tie.Need-array-read-lcm-up-to-limit Inv-loop μ-loop
 array-read-lcm-up-to-limit c = omega arith
-
-lcm-up-to-limit-requires : tie.Need-lcm-up-to-limit-requires Inv-loop μ-loop
-lcm-up-to-limit-requires c κs = search needs
 
 add-i : tie.Need-add-i Inv-loop μ-loop
 add-i c = omega arith
@@ -78,11 +72,11 @@ hyperperiod-spec =
     (tie.spec
     Inv-loop
     μ-loop
-    counted-requires
+    (λ c κs. search needs)  -- counted-requires
     loop-holds
     mul-lcm-up-to-limit
     array-read-lcm-up-to-limit
-    lcm-up-to-limit-requires
+    (λ c κs. search needs)  -- lcm-up-to-limit-requires
     add-i
     loop-less
     loop-again
