@@ -12,7 +12,7 @@ use Rattle.times.specs.Releases.{isRelease}
 use Rattle.times.specs.Hyperperiod.{gcdIn, gcd, lcm, lcmFrom, lcmOf}
 use Rattle.times.specs.Points.{publishing, reading, isPublishing, isReading, publishesAt, servesAt}
 use Rattle.outcomes.specs.Outcome.{gives}
-use Rattle.table.specs.Reading.{field, inRow, check}
+use Rattle.taking.specs.Reading.{field, inRow, check, zeroBits, nothingFollows}
 use Rattle.table.specs.Table.{coreOf, periodOf, timingOf, writerOf, marks, reads, hyperperiodOf}
 use Rattle.table.specs.Image.{between, headFields, taskFields, rightReaders, labelFields, tableOf, rowsOf, fill}
 use Rattle.table.specs.Image.{allFields, wholeFields, readImage}
@@ -45,7 +45,7 @@ unfolding readingByFloor servedByFloor publishedForOne stateAfterReadingFirst va
 of-errors = tt
 
 of-image : Unit {0}
-unfolding bitCount bitAt fieldAt field foundAt inRow check between headFields taskFields rightReaders labelFields fill
+unfolding bitCount bitAt fieldAt field foundAt inRow check zeroBits nothingFollows between headFields taskFields rightReaders labelFields fill
     allFields
 of-image = tt
 

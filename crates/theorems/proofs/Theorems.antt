@@ -13,10 +13,10 @@ use Rattle.bits.specs.Bits.{bitCount}
 use Rattle.table.specs.Image.{Whole, readImage}
 use Rattle.table.specs.Shown.{answerOf}
 use Rattle.table.proofs.Numbers.{image-refusal}
-use Rattle.table.proofs.read_table.Statement as read-table
-use Rattle.table.proofs.read_table.Met as read-table-met
-use Rattle.table.proofs.read_rows.Statement as read-rows
-use Rattle.table.proofs.read_rows.Met as read-rows-met
+use Rattle.images.proofs.read_table.Statement as read-table
+use Rattle.images.proofs.read_table.Met as read-table-met
+use Rattle.images.proofs.read_rows.Statement as read-rows
+use Rattle.images.proofs.read_rows.Met as read-rows-met
 use Rattle.writing.specs.Written.{ImageOfRight}
 use Rattle.writing.proofs.LargestImage.{largest-image}
 use Rattle.writing.proofs.AcceptedExactly.{only-right-accepted, all-right-accepted}
