@@ -17,7 +17,7 @@ use Rattle.copies.specs.Listing.{copyFields, frameFields, listingFields, listin
 use Rattle.ages.specs.Ages.{follow, endOf, isBasic, lengthOf, ageOf, roundOf, basicPaths, largest, least, worstAge}
 use Rattle.ages.specs.Ages.{bestAge, agesOf}
 use Rattle.questions.specs.Questions.{listing}
-use Rattle.printing.specs.Rounds.{hyperperiod}
+use Rattle.printing.specs.FirstLine.{hyperperiod}
 use Rattle.cases.specs.Starred.{AllHold, Holds, starred}
 
 pub starred-cases-hold : AllHold starred

@@ -9,7 +9,7 @@ use Rattle.outcomes.specs.Outcome.{gives, refuses}
 use Rattle.table.specs.Shown.{answerOf}
 use Rattle.ages.specs.Ages.{Chain, endOf, agesOf}
 use Rattle.questions.specs.Questions.{listing}
-use Rattle.printing.specs.Rounds as rounds
+use Rattle.printing.specs.FirstLine as firstLine
 use Rattle.cases.specs.Example.{example, periods999and1001, periods1000and1001}
 
 -- what a case says
@@ -28,7 +28,7 @@ chain T1 others = record { first = every T1; others = map every others }
 -- that it is so, by the definitions
 unfoldable pub Holds : Case → Type 0
 Holds (points Tw Tr n P Q) = (publishing (every Tw) (every Tr) n ≡ P) × (reading (every Tw) (every Tr) n ≡ Q)
-Holds (hyperperiod image H) = rounds.hyperperiod image ≡ gives H
+Holds (hyperperiod image H) = firstLine.hyperperiod image ≡ gives H
 Holds (refused image number place) = answerOf image ≡ refuses number place
 Holds (end tasks t E) = endOf tasks t ≡ E
 Holds (answer tasks paths long worst best jitter) =

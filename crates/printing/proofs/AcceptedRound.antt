@@ -10,7 +10,7 @@ use Rattle.outcomes.specs.Outcome.{Outcome, gives, refuses, askedOf}
 use Rattle.table.specs.Table.{hyperperiodOf}
 use Rattle.table.specs.Image.{Whole, readImage}
 use Rattle.table.proofs.Accepted.{accepted-within}
-use Rattle.printing.specs.Rounds.{hyperperiod}
+use Rattle.printing.specs.FirstLine.{hyperperiod}
 
 -- asked of the image's table, or of the image
 pub round-of-image : (image : List ℕ) → askedOf (readImage image) (λ whole. withinLimit (hyperperiodOf (whole .table)))

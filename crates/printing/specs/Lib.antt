@@ -1,4 +1,4 @@
 -- Definitions of this crate.
+pub mod FirstLine
 pub mod Printed
-pub mod Rounds
 pub mod Words

@@ -1,7 +1,7 @@
 // What the printing program prints of an image (document 01, The printing program): the numbers of its lines. What each
 // line says: specs/.
 ghost use mathlib.Core.Path.{_≡_};
-ghost use Rattle.printing.specs.Rounds.{saidOfHyperperiod, hyperperiod};
+ghost use Rattle.printing.specs.FirstLine.{saidOfHyperperiod, hyperperiod};
 ghost use Rattle.times.specs.Rounds.{withinLimit};
 ghost use Rattle.table.specs.Table.{hyperperiodOf};
 use table::Answer;

@@ -6,12 +6,14 @@ ghost use Prim.Native.Nat.{min};
 ghost use lib.Dec.{leb, ltb};
 ghost use lib.ListN.{getD};
 ghost use Rattle.lists.specs.Lists.{someBelow};
+ghost use Rattle.times.specs.Releases.{every};
 ghost use Rattle.questions.specs.Answers.{saidOfPoints};
 ghost use Rattle.questions.specs.Questions.{pointsOf};
 ghost use Rattle.questions.specs.Parts.{goesFrom};
 use crate::PointsAnswer;
 use table::Refusal;
 use table::Table;
+use times::Timing;
 
 // A count of labels, of which an array of 64 holds no more than 64.
 fn counted(labels: usize) -> usize
@@ -35,14 +37,16 @@ fn joined(writer: [u32; 64], readers: [u32; 64], labels: usize, w: u64, r: u64) 
     false
 }
 
-// The period of task i; past the array there is none, and it is 0.
-fn period_of(period: [u32; 32], i: u64) -> u32
-    ensures { λ r. ⌜ r ≡ getD period i 0 ⌝ }
+// What fixes the releases of task i; past the array there is none, and its period is 0.
+fn timing_of(period: [u32; 32], i: u64) -> Timing
+    ensures { λ r. ⌜ r ≡ every (getD period i 0) ⌝ }
 {
     if i < 32 {
-        return period[i as usize];
+        return Timing {
+            period: period[i as usize],
+        };
     }
-    0
+    Timing { period: 0 }
 }
 
 // The asked tasks are in the table, and n is at most 1,000,000.
@@ -79,8 +83,8 @@ pub(crate) fn points_of(table: Table, writer: u64, reader: u64, n: u64) -> Point
             place: 0,
         };
     }
-    let of_writer = period_of(period, writer);
-    let of_reader = period_of(period, reader);
+    let of_writer = timing_of(period, writer);
+    let of_reader = timing_of(period, reader);
     let number = n as u32;
     PointsAnswer::Points {
         publishing: times::points::publishing(of_writer, of_reader, number),

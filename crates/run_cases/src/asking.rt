@@ -3,6 +3,7 @@ use libc::STDOUT_FILENO;
 use printing::HyperperiodAnswer;
 use questions::PointsAnswer;
 use table::Refusal;
+use times::Timing;
 
 // A space and a number.
 fn tell(number: u64) {
@@ -51,8 +52,14 @@ pub(crate) fn ask_points(name: &[u8], image: &[u8], writer: u64, reader: u64, n:
 pub(crate) fn ask_directly(name: &[u8], writer_period: u32, reader_period: u32, n: u32) {
     io::write_all(STDOUT_FILENO, name);
     io::write_all(STDOUT_FILENO, b":");
-    tell(times::points::publishing(writer_period, reader_period, n));
-    tell(times::points::reading(writer_period, reader_period, n));
+    let writer = Timing {
+        period: writer_period,
+    };
+    let reader = Timing {
+        period: reader_period,
+    };
+    tell(times::points::publishing(writer, reader, n));
+    tell(times::points::reading(writer, reader, n));
     io::write_all(STDOUT_FILENO, b"\n");
 }
 

@@ -10,8 +10,8 @@ use Rattle.lists.proofs.Bools.{not-both}
 use Rattle.times.specs.Releases.{Timing, isRelease}
 use Rattle.times.specs.Points.{publishesAt, servesAt}
 use Rattle.times.proofs.Releases.{lastTo, lastTo-is-release, lastTo-at-most, lastTo-last}
-use Rattle.times.proofs.PointsInRound.{publishesAt-released, servesAt-released}
-use Rattle.times.proofs.PointsInRound.{publishesAt-last-write, servesAt-after-last-write}
+use Rattle.times.proofs.PointsCover.{publishesAt-released, servesAt-released}
+use Rattle.times.proofs.PointsCover.{publishesAt-last-write, servesAt-after-last-write}
 use Rattle.runs.specs.Sufficing.{LastUpTo, SomeWithin}
 
 last-release : (task : Timing) → 0 < task .period → (t w : ℕ) → LastUpTo (isRelease task) t w → lastTo task t ≡ w

@@ -4,6 +4,7 @@ use Prim.Native.Nat.{ℕ, zero, suc, _<_, _≤_, _∣_}
 use mathlib.Core.Path.{_≡_, refl, ap, _∙_}
 use mathlib.Core.List.{List, [], _∷_, _++_}
 use native.Mathlib.Nat.{dvd-refl, dvd-trans, one-dvd, le-of-dvd, le-of-suc-le-suc, zero-lt-suc, suc-le-suc-iff}
+use native.Mathlib.Nat.{eq-zero-of-zero-dvd}
 use native.Mathlib.Omega.{arith}
 use lib.ListN.{length, getD}
 use Rattle.times.specs.Hyperperiod.{lcm, lcmFrom, lcmOf}
@@ -76,6 +77,11 @@ lcmFrom-positive running (p ∷ ps) h each =
 pub period-divides-hyperperiod : (periods : List ℕ) → Each (λ p. p ∣ lcmOf periods) periods
 unfolding lcmOf
 period-divides-hyperperiod periods = member-divides-lcmFrom 1 periods
+
+-- with a period of 0 among the periods it is 0
+pub hyperperiod-of-zero
+    : (periods : List ℕ) (i : ℕ) → i < length periods → getD periods i 0 ≡ 0 → lcmOf periods ≡ 0
+hyperperiod-of-zero periods i h e = eq-zero-of-zero-dvd (rw e at (period-divides-hyperperiod periods i h))
 
 -- the hyperperiod divides every number that all periods divide
 pub hyperperiod-divides-common-multiple : (periods : List ℕ) (m : ℕ) → Each (λ p. p ∣ m) periods → lcmOf periods ∣ m

@@ -1,18 +1,19 @@
 -- The points that count at a tick, taken modulo a round H that both periods divide. Document 01, Copies and frames:
--- "when t, modulo H, is a publishing point", "when t, modulo H, is a reading point". The laws are those of the tick.
--- Assumes nothing.
-use Prim.Native.Nat.{ℕ, _+_, _%_, _<_, _≤_, _∣_}
-use mathlib.Core.Path.{_≡_, sym, ap, _∙_}
-use mathlib.Core.Bool.{true}
-use native.Mathlib.Nat.{mod-mod}
-use Rattle.times.specs.Releases.{Timing, isRelease}
-use Rattle.times.specs.Points.{isPublishing, isReading, publishesAt, servesAt}
-use Rattle.times.proofs.Releases.{lastTo}
+-- "when t, modulo H, is a publishing point", "when t, modulo H, is a reading point". A tick counts exactly when some
+-- point of the pair has its remainder, and exactly when it passes the fast test; what stands above uses these two laws
+-- and not the search. Assumes nothing.
+use Prim.Native.Nat.{ℕ, _+_, _%_, _<_, _∣_}
+use mathlib.Core.Path.{_≡_, refl, sym, ap, _∙_}
+use mathlib.Core.Bool.{Bool, true}
+use mathlib.Core.Logic.{_↔_}
+use native.Mathlib.Nat.{add-mod-right, mod-mod}
+use Rattle.times.specs.Releases.{Timing}
+use Rattle.times.specs.Points.{publishing, reading, isPublishing, isReading, publishesAt, servesAt}
+use Rattle.times.proofs.PointSearch.{publishing-finds, publishing-found, reading-finds, reading-found}
 use Rattle.times.proofs.PointTests.{publishingTest, readingTest}
-use Rattle.times.proofs.PublishingTest.{publishing-test, publishing-released}
-use Rattle.times.proofs.ReadingTest.{reading-test, reading-released}
-use Rattle.times.proofs.PointsCover.{last-write-is-published, served-after-last-write}
-use Rattle.times.proofs.PointsRepeat.{publishing-modulo, publishing-repeats, reading-modulo, reading-repeats}
+use Rattle.times.proofs.PublishingTest.{publishing-test}
+use Rattle.times.proofs.ReadingTest.{reading-test}
+use Rattle.times.proofs.PointsRepeat.{publishing-modulo, reading-modulo}
 
 -- a round is like the first
 pub publishes-in-round : (H : ℕ) (writer reader : Timing) (t : ℕ)
@@ -25,54 +26,68 @@ pub serves-in-round : (H : ℕ) (writer reader : Timing) (t : ℕ)
 unfolding servesAt
 serves-in-round H writer reader t = ap (isReading writer reader) (mod-mod t H)
 
+-- so ticks of one remainder are alike
+alike : (H : ℕ) (test : ℕ → Bool) → ((t : ℕ) → test (t % H) ≡ test t) → (s t : ℕ) → s % H ≡ t % H → test s ≡ test t
+alike H test in-round s t e = sym (in-round s) ∙ ap test e ∙ in-round t
+
+-- round after round
+pub publishesAt-repeats : (H : ℕ) (writer reader : Timing) (t : ℕ)
+    → publishesAt H writer reader (t + H) ≡ publishesAt H writer reader t
+publishesAt-repeats H writer reader t =
+    alike H (publishesAt H writer reader) (publishes-in-round H writer reader) (t + H) t (add-mod-right t H)
+
+pub servesAt-repeats : (H : ℕ) (writer reader : Timing) (t : ℕ)
+    → servesAt H writer reader (t + H) ≡ servesAt H writer reader t
+servesAt-repeats H writer reader t =
+    alike H (servesAt H writer reader) (serves-in-round H writer reader) (t + H) t (add-mod-right t H)
+
 module _ (writer reader : Timing) (writes : 0 < writer .period) (reads : 0 < reader .period) where
   module _ (H : ℕ) (dw : writer .period ∣ H) (dr : reader .period ∣ H) where
-    pub publishesAt-is-publishing : (t : ℕ) → publishesAt H writer reader t ≡ isPublishing writer reader t
-    unfolding publishesAt
-    publishesAt-is-publishing t = publishing-modulo writer reader writes reads H dw dr t
-
-    pub servesAt-is-reading : (t : ℕ) → servesAt H writer reader t ≡ isReading writer reader t
-    unfolding servesAt
-    servesAt-is-reading t = reading-modulo writer reader writes reads H dw dr t
-
     -- by the fast tests
     pub publishesAt-test : (t : ℕ) → publishesAt H writer reader t ≡ publishingTest writer reader t
-    publishesAt-test t = publishesAt-is-publishing t ∙ publishing-test writer reader writes reads t
+    unfolding publishesAt
+    publishesAt-test t =
+        publishing-test writer reader writes reads (t % H) ∙ publishing-modulo writer reader writes reads H dw dr t
 
     pub servesAt-test : (t : ℕ) → servesAt H writer reader t ≡ readingTest writer reader t
-    servesAt-test t = servesAt-is-reading t ∙ reading-test writer reader writes reads t
+    unfolding servesAt
+    servesAt-test t =
+        reading-test writer reader writes reads (t % H) ∙ reading-modulo writer reader writes reads H dw dr t
 
-    -- only at releases
-    pub publishesAt-released : (t : ℕ) → publishesAt H writer reader t ≡ true → isRelease writer t ≡ true
-    publishesAt-released t h = publishing-released writer reader writes reads t (sym (publishesAt-is-publishing t) ∙ h)
+    -- exactly when some P(n) has the remainder of t
+    pub publishesAt-exactly : (t : ℕ)
+        → (publishesAt H writer reader t ≡ true) ↔ ((n : ℕ) × (publishing writer reader n % H ≡ t % H))
+    unfolding publishesAt
+    publishesAt-exactly t = (finds, λ point. found (point .0) (point .1))
+      where
+        finds : isPublishing writer reader (t % H) ≡ true → (n : ℕ) × (publishing writer reader n % H ≡ t % H)
+        finds h =
+            let (n, e) = publishing-finds writer reader (t % H) h in
+            (n, ap (λ (k : ℕ). k % H) e ∙ mod-mod t H)
 
-    pub servesAt-released : (t : ℕ) → servesAt H writer reader t ≡ true → isRelease reader t ≡ true
-    servesAt-released t h = reading-released writer reader writes reads t (sym (servesAt-is-reading t) ∙ h)
+        found : (n : ℕ) → publishing writer reader n % H ≡ t % H → publishesAt H writer reader t ≡ true
+        found n e =
+            let point = publishing writer reader n in
+            alike H (publishesAt H writer reader) (publishes-in-round H writer reader) t point (sym e)
+            ∙ publishesAt-test point
+            ∙ sym (publishing-test writer reader writes reads point)
+            ∙ publishing-found writer reader writes reads point n refl
 
-    -- round after round
-    pub publishesAt-repeats : (t : ℕ) → publishesAt H writer reader (t + H) ≡ publishesAt H writer reader t
-    publishesAt-repeats t =
-        publishesAt-is-publishing (t + H)
-        ∙ publishing-repeats writer reader writes reads H dw dr t
-        ∙ sym (publishesAt-is-publishing t)
+    -- exactly when some Q(n) has the remainder of t
+    pub servesAt-exactly : (t : ℕ)
+        → (servesAt H writer reader t ≡ true) ↔ ((n : ℕ) × (reading writer reader n % H ≡ t % H))
+    unfolding servesAt
+    servesAt-exactly t = (finds, λ point. found (point .0) (point .1))
+      where
+        finds : isReading writer reader (t % H) ≡ true → (n : ℕ) × (reading writer reader n % H ≡ t % H)
+        finds h =
+            let (n, e) = reading-finds writer reader (t % H) h in
+            (n, ap (λ (k : ℕ). k % H) e ∙ mod-mod t H)
 
-    pub servesAt-repeats : (t : ℕ) → servesAt H writer reader (t + H) ≡ servesAt H writer reader t
-    servesAt-repeats t =
-        servesAt-is-reading (t + H)
-        ∙ reading-repeats writer reader writes reads H dw dr t
-        ∙ sym (servesAt-is-reading t)
-
-    -- at the writer's last release at or before a release of the reader
-    pub publishesAt-last-write
-        : (t : ℕ) → isRelease reader t ≡ true → publishesAt H writer reader (lastTo writer t) ≡ true
-    publishesAt-last-write t h =
-        publishesAt-is-publishing (lastTo writer t) ∙ last-write-is-published writer reader writes reads t h
-
-    -- and from there up to the reader's release
-    pub servesAt-after-last-write
-        : (t : ℕ)
-        → isRelease reader t ≡ true
-        → (s : ℕ) × (lastTo writer t ≤ s) × (s ≤ t) × (servesAt H writer reader s ≡ true)
-    servesAt-after-last-write t h =
-        let found = served-after-last-write writer reader writes reads t h in
-        (found .0, found .1, found .2, servesAt-is-reading (found .0) ∙ found .3)
+        found : (n : ℕ) → reading writer reader n % H ≡ t % H → servesAt H writer reader t ≡ true
+        found n e =
+            let point = reading writer reader n in
+            alike H (servesAt H writer reader) (serves-in-round H writer reader) t point (sym e)
+            ∙ servesAt-test point
+            ∙ sym (reading-test writer reader writes reads point)
+            ∙ reading-found writer reader writes reads point n refl

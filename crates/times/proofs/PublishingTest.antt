@@ -13,7 +13,7 @@ use Rattle.times.proofs.PointSearch.{publishing-finds, publishing-found
 use Rattle.times.proofs.PointTests.{publishingTest, test-of-cases}
 
 module _ (writer reader : Timing) (writes : 0 < writer .period) (reads : 0 < reader .period) (t : ℕ) where
-  pub publishing-released : isPublishing writer reader t ≡ true → isRelease writer t ≡ true
+  publishing-released : isPublishing writer reader t ≡ true → isRelease writer t ≡ true
   publishing-released h =
       let found = publishing-finds writer reader t h in
       subst (λ (s : ℕ). isRelease writer s ≡ true) (found .1) (publishing-is-release writer reader (found .0))

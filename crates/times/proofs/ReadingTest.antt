@@ -14,7 +14,7 @@ use Rattle.times.proofs.PointSearch.{reading-finds, reading-found}
 use Rattle.times.proofs.PointTests.{readingTest, test-of-cases}
 
 module _ (writer reader : Timing) (writes : 0 < writer .period) (reads : 0 < reader .period) (t : ℕ) where
-  pub reading-released : isReading writer reader t ≡ true → isRelease reader t ≡ true
+  reading-released : isReading writer reader t ≡ true → isRelease reader t ≡ true
   reading-released h =
       let found = reading-finds writer reader t h in
       subst (λ (s : ℕ). isRelease reader s ≡ true) (found .1) (reading-is-release writer reader (found .0))

@@ -4,10 +4,11 @@
 use Prim.Native.Nat.{ℕ, _+_, _*_, _-_, _/_, _%_}
 use mathlib.Core.Bool.{Bool}
 use lib.Dec.{eqb}
+use Rattle.times.specs.declared.Timing as code
 
--- what fixes a task's releases
-pub record Timing : Type 0 where
-  pub period : ℕ
+-- what fixes a task's releases: the struct of the code, whose field is the task's period
+abbrev pub Timing : Type 0
+Timing = code.Timing
 
 -- a task that is first released at tick 0 and then at every multiple of the period
 abbrev pub every : ℕ → Timing

@@ -6,7 +6,7 @@ use Rattle.outcomes.specs.Outcome.{Outcome, gives, refuses}
 use Rattle.times.specs.declared.rounds.Round.{Round}
 use Rattle.times.specs.declared.rounds.Round.the-variants.{Within, Above}
 
--- "at most 1,000,000"
+-- "at most 1,000,000"; so is 0, the least common multiple of periods of which one is 0
 abbrev pub inLimit : ℕ → Bool
 inLimit H = leb H 1000000
 

@@ -2,3 +2,8 @@
 pub mod divisors;
 pub mod points;
 pub mod rounds;
+
+// What fixes a task's releases. Document 01: "A task with period T is released at 0, T, 2T and so on".
+pub struct Timing {
+    pub period: u32,
+}

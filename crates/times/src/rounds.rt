@@ -20,8 +20,9 @@ fn counted(tasks: usize) -> usize
     if tasks < 32 { tasks } else { 32 }
 }
 
-// The hyperperiod of the first `tasks` periods. The running value stays at 1,000,001 once it is larger, since the least
-// common multiple with a period above 0 only grows, and with a period of 0 it is 0.
+// The hyperperiod of the first `tasks` periods, whatever they are. With a period of 0 among them it is 0, which is
+// within the limit; a table has none (document 01: refusal 5). The running value stays at 1,000,001 once it is larger,
+// since the least common multiple with a period above 0 only grows, and with a period of 0 it is 0.
 pub fn hyperperiod(period: [u32; 32], tasks: usize) -> Round
     ensures { λ r. ⌜ saidOfRound r ≡ withinLimit (lcmOf (take tasks period)) ⌝ }
 {

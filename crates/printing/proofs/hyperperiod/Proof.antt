@@ -4,7 +4,7 @@ use borrow.Author.Needs.{needs}
 use Rattle.times.specs.Rounds.{withinLimit}
 use Rattle.table.specs.Table.{hyperperiodOf}
 use Rattle.questions.proofs.Asked.{refused-image, accepted-image}
-use Rattle.printing.specs.Rounds.{hyperperiod}
+use Rattle.printing.specs.FirstLine.{hyperperiod}
 use Rattle.printing.proofs.AcceptedRound.{round-of-image}
 use Rattle.printing.proofs.hyperperiod.Statement.{statement}
 use Rattle.printing.proofs.hyperperiod.Tie as tie

@@ -47,8 +47,8 @@ returns-3 c =
           (sym (linked-is joined) ∙ not-false _ (c .before .before .before .before .if2 .left)),
       c .before .publishing .ensures,
       c .reading .ensures,
-      c .before .before .period-of2 .ensures,
-      c .before .before .before .period-of .ensures,
+      c .before .before .timing-of2 .ensures,
+      c .before .before .before .timing-of .ensures,
     )
 
 pub points-of-spec : {M : Type 1} → statement M
@@ -59,8 +59,8 @@ points-of-spec =
     (λ c κs. search needs)  -- joined-requires
     returns
     returns-2
-    (λ c κs. search needs)  -- period-of-requires
-    (λ c κs. search needs)  -- period-of-requires-2
+    (λ c κs. search needs)  -- timing-of-requires
+    (λ c κs. search needs)  -- timing-of-requires-2
     cast-number
     (λ c κs. search needs)  -- publishing-requires
     (λ c κs. search needs)  -- reading-requires
