@@ -17,11 +17,12 @@ use Rattle.table.specs.Table.{coreOf, periodOf, timingOf, writerOf, marks, read
 use Rattle.table.specs.Image.{between, headFields, taskFields, rightReaders, labelFields, tableOf, rowsOf, fill}
 use Rattle.table.specs.Image.{allFields, wholeFields, readImage}
 use Rattle.copies.specs.Copies.{written, served, writesAt, readsAt, copiesAt, framesAt, framesOf}
+use Rattle.copies.specs.Listing.{allListings}
 use Rattle.copies.specs.Plans.{listedPlan, fullPlan}
 use Rattle.runs.specs.Runs.{readBy, afterAct, afterTurns, afterWrites, afterReads, afterActs}
 use Rattle.runs.specs.Runs.{atStart, stateAfter, valuesRead}
 use Rattle.lists.specs.Lists.{someOf}
-use Rattle.runs.specs.Listings.{copiesOf, planOf, listingsPlan}
+use Rattle.runs.specs.Listings.{copiesDue, planOf, listingsPlan}
 use Rattle.runs.specs.Errors.{readingByFloor, servedByFloor, publishedForOne}
 use Rattle.runs.specs.Errors.{stateAfterReadingFirst, valuesReadingFirst, withoutInstant0}
 use Rattle.runs.specs.Controls.{pair, pairImage, slowWriterImage, equalImage, twoReaders, twoReadersImage}
@@ -50,7 +51,8 @@ unfolding bitCount bitAt fieldAt field foundAt inRow check between headFields ta
 of-image = tt
 
 of-listings : Unit {0}
-unfolding eachBelow eachOf coreOf writesAt readsAt copiesAt framesAt framesOf someOf copiesOf planOf listingsPlan
+unfolding eachBelow eachOf coreOf writesAt readsAt copiesAt framesAt framesOf someOf allListings copiesDue planOf
+    listingsPlan
 of-listings = tt
 
 computes : Unit {0}

@@ -1,18 +1,19 @@
--- The plan that listings make: one list of frames for each core, carried out round after round. Document 01, Copies and
--- frames: "A frame is one instant at which a core has at least one copy." Assumes nothing.
+-- The plan that listings make: the frames of each, carried out round after round. Document 01, Copies and frames: "A
+-- frame is one instant at which a core has at least one copy." Assumes nothing.
 use Prim.Native.Nat.{ℕ, _%_}
 use mathlib.Core.Bool.{Bool, false, cond, _&&_}
 use mathlib.Core.List.{List, []}
 use lib.Dec.{eqb}
-use Rattle.lists.specs.Lists.{someBelow, someOf, eachOf}
-use Rattle.table.specs.Table.{hyperperiodOf}
+use Rattle.lists.specs.Lists.{someOf, eachOf}
 use Rattle.table.specs.declared.Table.{Table}
-use Rattle.copies.specs.Copies.{Copy, write, read, Frame, framesOf}
+use Rattle.copies.specs.Copies.{Copy, write, read}
+use Rattle.copies.specs.Listing.{Listing, allListings}
 use Rattle.copies.specs.Plans.{Plan}
 
--- the copies of the frames that start at an instant
-unfoldable pub copiesOf : List Frame → ℕ → List Copy
-copiesOf frames t = eachOf frames (λ frame. cond (eqb (frame .start) t) (frame .copies) [])
+-- the copies of a listing that are due at a tick: those of its frames that start at it, modulo its round
+unfoldable pub copiesDue : Listing → ℕ → List Copy
+copiesDue listing t =
+    eachOf (listing .frames) (λ frame. cond (eqb (frame .start) (t % listing .round)) (frame .copies) [])
 
 -- the copy is a write of label l
 abbrev pub isWriteOf : ℕ → Copy → Bool
@@ -24,13 +25,13 @@ abbrev pub isReadOf : ℕ → ℕ → Copy → Bool
 isReadOf l r (write label writer) = false
 isReadOf l r (read label reader) = eqb label l && eqb reader r
 
--- a copy is made at t when a core has it in a frame that starts at t, modulo the round
-unfoldable pub planOf : (cores round : ℕ) → (frames : ℕ → List Frame) → Plan
-planOf cores round frames = record {
-  writes = λ l t. someBelow cores (λ core. someOf (isWriteOf l) (copiesOf (frames core) (t % round)));
-  serves = λ l r t. someBelow cores (λ core. someOf (isReadOf l r) (copiesOf (frames core) (t % round)));
+-- a copy is made at t when it is due at t in one of the listings
+unfoldable pub planOf : List Listing → Plan
+planOf listings = record {
+  writes = λ l t. someOf (isWriteOf l) (eachOf listings (λ listing. copiesDue listing t));
+  serves = λ l r t. someOf (isReadOf l r) (eachOf listings (λ listing. copiesDue listing t));
 }
 
 -- the plan of the listings of a table
 unfoldable pub listingsPlan : Table → Plan
-listingsPlan table = planOf (table .cores) (hyperperiodOf table) (framesOf table)
+listingsPlan table = planOf (allListings table)
