@@ -22,7 +22,7 @@ use Rattle.copies.specs.Plans.{listedPlan, fullPlan}
 use Rattle.runs.specs.Runs.{readBy, afterAct, afterTurns, afterWrites, afterReads, afterActs}
 use Rattle.runs.specs.Runs.{atStart, stateAfter, valuesRead}
 use Rattle.lists.specs.Lists.{someOf}
-use Rattle.runs.specs.Listings.{copiesDue, planOf, listingsPlan}
+use Rattle.runs.specs.FramePlan.{copiesDue, planOf, listingsPlan}
 use Rattle.runs.specs.Errors.{readingByFloor, servedByFloor, publishedForOne}
 use Rattle.runs.specs.Errors.{stateAfterReadingFirst, valuesReadingFirst, withoutInstant0}
 use Rattle.runs.specs.Controls.{pair, pairImage, slowWriterImage, equalImage, twoReaders, twoReadersImage}

@@ -1,6 +1,6 @@
 -- Definitions of this crate.
 pub mod Controls
 pub mod Errors
-pub mod Listings
+pub mod FramePlan
 pub mod Runs
 pub mod Sufficing

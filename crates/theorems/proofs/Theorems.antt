@@ -35,7 +35,7 @@ use Rattle.questions.proofs.points.Statement as asked-points
 use Rattle.questions.proofs.Determined.{points-determined, listing-determined, ages-determined}
 use Rattle.questions.proofs.Determined.{same-refusal-whichever-question}
 use Rattle.copies.specs.Plans.{fullPlan}
-use Rattle.runs.specs.Listings.{listingsPlan}
+use Rattle.runs.specs.FramePlan.{listingsPlan}
 use Rattle.runs.specs.Runs.{Turns, valuesRead}
 use Rattle.runs.proofs.NoJobCanTell as runs
 use Rattle.cases.specs.Starred.{AllHold, starred}

@@ -1,5 +1,5 @@
--- Which copies are due at a tick, by the frames of the listings of a table: those that its cores have at that instant of
--- the round. Assumes nothing.
+-- Which copies are due at a tick, by the frames of a table's listings: those that its cores have at that instant of the
+-- round. Assumes nothing.
 use Prim.Native.Nat.{ℕ, _%_, _<_}
 use mathlib.Core.Bool.{Bool, true, false, cond, _&&_, _||_, or-false, and-false}
 use mathlib.Core.Path.{_≡_, refl, sym, ap₂, _∙_, subst}
@@ -15,7 +15,7 @@ use Rattle.copies.specs.Copies.{Copy, write, read, written, served}
 use Rattle.copies.specs.Copies.{writesAt, readsAt, copiesAt, framesAt, framesOf}
 use Rattle.lists.specs.Lists.{someOf}
 use Rattle.copies.specs.Listing.{coreListing, allListings}
-use Rattle.runs.specs.Listings.{copiesDue}
+use Rattle.runs.specs.FramePlan.{copiesDue}
 use Rattle.lists.proofs.SomeOf.{some-append, some-each-below, some-each-of, some-only-if}
 
 -- among the numbers below a bound, the one that is meant

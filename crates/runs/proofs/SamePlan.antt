@@ -14,8 +14,8 @@ use Rattle.table.specs.declared.Table.{Table}
 use Rattle.copies.specs.Copies.{written, served, copiesAt}
 use Rattle.copies.specs.Plans.{listedPlan}
 use Rattle.lists.specs.Lists.{someOf}
-use Rattle.runs.specs.Listings.{isWriteOf, isReadOf, planOf, listingsPlan}
-use Rattle.runs.proofs.Listings.{writing, reading, listings-have, copies-have}
+use Rattle.runs.specs.FramePlan.{isWriteOf, isReadOf, planOf, listingsPlan}
+use Rattle.runs.proofs.FrameCopies.{writing, reading, listings-have, copies-have}
 use Rattle.times.proofs.PointsInRound.{publishes-in-round, serves-in-round}
 use Rattle.table.proofs.Sound.{Sound}
 
