@@ -8,7 +8,7 @@ use Rattle.outcomes.specs.Outcome.{gives, refuses}
 use Rattle.copies.specs.Plans.{listedPlan, fullPlan}
 use Rattle.cases.specs.Example.{example, exampleListing, periods1000and1001}
 use Rattle.cases.specs.Images.{headOf, head, task, label, to, chain, image, chain5and2, alone, labels, lastByte}
-use Rattle.cases.specs.Images.{twoTasks, oneChain, widest, crossed, shared, back}
+use Rattle.cases.specs.Images.{twoTasks, oneChain, widest, crossed, shared, back, unread}
 use Rattle.cases.specs.Texts.{crossedBytes, sharedBytes, backBytes}
 use Rattle.cases.specs.Texts.{crossedText, sharedText, backText, refusedText, crossedListing}
 use Rattle.cases.specs.Texts.{sharedListing0, sharedListing1, sharedListing2, counted}
@@ -93,7 +93,7 @@ further =
     ∷ ages (lastByte 0x21) 9 (refuses 9 127)
     ∷ printed (lastByte 0x21) refusedText
     -- "Inside a frame come the writes by rising label, then the reads by rising label and, within a label, rising
-    -- task."
+    -- task." "The two may be the same core; the copies are still listed."
     ∷ printed crossed crossedText
     ∷ listing crossed 0 16 (gives crossedListing)
     -- "a label has two readers with different periods"; "a core without frames has its `core` line alone"
@@ -123,4 +123,9 @@ further =
     ∷ serves fullPlan back 1 0 12 (0 ∷ 2 ∷ 4 ∷ 6 ∷ 8 ∷ 10 ∷ [])
     ∷ serves fullPlan back 0 0 12 []
     ∷ writes fullPlan back 2 12 []
+    -- "A label may have no reader.": the listed copies write label 1 and never label 0; full copying writes it too
+    ∷ accepted unread
+    ∷ writes listedPlan unread 0 20 []
+    ∷ writes listedPlan unread 1 20 (0 ∷ 4 ∷ 10 ∷ 14 ∷ [])
+    ∷ writes fullPlan unread 0 10 (0 ∷ 2 ∷ 4 ∷ 6 ∷ 8 ∷ [])
     ∷ []
