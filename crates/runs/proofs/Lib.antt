@@ -3,6 +3,7 @@ pub mod Between
 pub mod Controls
 pub mod Copied
 pub mod CopiesSuffice
+pub mod CoresAside
 pub mod Errors
 pub mod FrameCopies
 pub mod Held

@@ -2,5 +2,6 @@
 pub mod Controls
 pub mod Errors
 pub mod FramePlan
+pub mod Moved
 pub mod Runs
 pub mod Sufficing
