@@ -41,4 +41,5 @@ further-cases-hold =
     also refl also refl also refl also refl also refl also refl also refl also refl also refl also refl
     also refl also refl also refl also refl also refl also refl also refl also refl also refl also refl
     also refl also refl also refl also refl also refl also refl also refl also refl also refl also refl
-    also refl also refl also refl also refl also refl also none
+    also refl also refl also refl also refl also refl also refl also refl also refl also refl
+    also none

@@ -35,13 +35,13 @@ use Rattle.questions.proofs.points.Statement as asked-points
 use Rattle.questions.proofs.Determined.{points-determined, listing-determined, ages-determined}
 use Rattle.questions.proofs.Determined.{same-refusal-whichever-question}
 use Rattle.copies.specs.Plans.{fullPlan}
-use Rattle.runs.specs.Listings.{listingsPlan}
+use Rattle.runs.specs.FramePlan.{listingsPlan}
 use Rattle.runs.specs.Runs.{Turns, valuesRead}
 use Rattle.runs.proofs.NoJobCanTell as runs
-use Rattle.cases.specs.Starred.{AllHold, starred}
+use Rattle.cases.specs.Kinds.{AllHold}
+use Rattle.cases.specs.Starred.{starred}
 use Rattle.cases.proofs.Starred.{starred-cases-hold}
-use Rattle.cases.specs.Kinds as further
-use Rattle.cases.specs.Further as table
+use Rattle.cases.specs.Further.{further}
 use Rattle.cases.proofs.Further.{further-cases-hold}
 
 -- DEMAND 1. Any string of bytes gets a table or one numbered refusal with its place, and the reader always ends.
@@ -82,7 +82,7 @@ same-refusal = same-refusal-whichever-question
 pub starred-cases : AllHold starred
 starred-cases = starred-cases-hold
 
-pub further-cases : further.AllHold table.further
+pub further-cases : AllHold further
 further-cases = further-cases-hold
 
 -- The hyperperiod is the least common multiple: every period divides it, and it is the least number above 0 that all

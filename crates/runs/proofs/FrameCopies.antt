@@ -1,11 +1,12 @@
--- What copies the frames of a core have at an instant: those that the core has then. Assumes nothing.
-use Prim.Native.Nat.{ℕ, _<_}
+-- Which copies are due at a tick, by the frames of a table's listings: those that its cores have at that instant of the
+-- round. Assumes nothing.
+use Prim.Native.Nat.{ℕ, _%_, _<_}
 use mathlib.Core.Bool.{Bool, true, false, cond, _&&_, _||_, or-false, and-false}
 use mathlib.Core.Path.{_≡_, refl, sym, ap₂, _∙_, subst}
 use mathlib.Core.List.{List, [], _∷_}
 use lib.Dec.{eqb}
 use borrow.Author.Tests.{eqb-true, eq-eqb}
-use Rattle.lists.specs.Lists.{someBelow}
+use Rattle.lists.specs.Lists.{someBelow, eachOf}
 use Rattle.lists.proofs.Bools.{same-test, and-parts, and-of-parts}
 use Rattle.lists.proofs.Lists.{someBelow-finds, someBelow-found, someBelow-same}
 use Rattle.table.specs.Table.{coreOf, writerOf, hyperperiodOf}
@@ -13,7 +14,8 @@ use Rattle.table.specs.declared.Table.{Table}
 use Rattle.copies.specs.Copies.{Copy, write, read, written, served}
 use Rattle.copies.specs.Copies.{writesAt, readsAt, copiesAt, framesAt, framesOf}
 use Rattle.lists.specs.Lists.{someOf}
-use Rattle.runs.specs.Listings.{copiesOf}
+use Rattle.copies.specs.Listing.{coreListing, allListings}
+use Rattle.runs.specs.FramePlan.{copiesDue}
 use Rattle.lists.proofs.SomeOf.{some-append, some-each-below, some-each-of, some-only-if}
 
 -- among the numbers below a bound, the one that is meant
@@ -47,16 +49,27 @@ module _ (test : Copy → Bool) where
       go true = or-false (someOf test (copy ∷ more))
       go false = refl
 
-  -- the frames of a core have at an instant of the round the copies of that instant
-  pub frames-have : (table : Table) (core s : ℕ) → s < hyperperiodOf table
-      → someOf test (copiesOf (framesOf table core) s) ≡ someOf test (copiesAt table core s)
-  unfolding copiesOf framesOf
-  frames-have table core s inside =
+  -- the listing of a core has at a tick the copies of its instant
+  frames-have : (table : Table) (core t : ℕ) → t % hyperperiodOf table < hyperperiodOf table
+      → someOf test (copiesDue (coreListing table core) t) ≡ someOf test (copiesAt table core (t % hyperperiodOf table))
+  unfolding copiesDue framesOf
+  frames-have table core t inside =
+      let s : ℕ = t % hyperperiodOf table in
       some-each-of test (framesOf table core) _
       ∙ some-each-below _ (hyperperiodOf table) _
-      ∙ someBelow-same (hyperperiodOf table) _ (λ t. eqb t s && someOf test (copiesAt table core t))
-      (λ t below. some-frame s t (copiesAt table core t))
-      ∙ some-at (hyperperiodOf table) s (λ t. someOf test (copiesAt table core t)) inside
+      ∙ someBelow-same (hyperperiodOf table) _ (λ u. eqb u s && someOf test (copiesAt table core u))
+      (λ u below. some-frame s u (copiesAt table core u))
+      ∙ some-at (hyperperiodOf table) s (λ u. someOf test (copiesAt table core u)) inside
+
+  -- and the listings of all cores those of one core or another
+  pub listings-have : (table : Table) (t : ℕ) → t % hyperperiodOf table < hyperperiodOf table
+      → someOf test (eachOf (allListings table) (λ listing. copiesDue listing t))
+      ≡ someBelow (table .cores) (λ core. someOf test (copiesAt table core (t % hyperperiodOf table)))
+  unfolding allListings someOf
+  listings-have table t inside =
+      some-each-of test (allListings table) _
+      ∙ some-each-below _ (table .cores) _
+      ∙ someBelow-same (table .cores) _ _ (λ core below. or-false _ ∙ frames-have table core t inside)
 
   -- the copies of an instant: the writes and the reads
   pub copies-have : (table : Table) (core s : ℕ)

@@ -14,8 +14,8 @@ use Rattle.table.specs.declared.Table.{Table}
 use Rattle.copies.specs.Copies.{written, served, copiesAt}
 use Rattle.copies.specs.Plans.{listedPlan}
 use Rattle.lists.specs.Lists.{someOf}
-use Rattle.runs.specs.Listings.{isWriteOf, isReadOf, planOf, listingsPlan}
-use Rattle.runs.proofs.Listings.{writing, reading, frames-have, copies-have}
+use Rattle.runs.specs.FramePlan.{isWriteOf, isReadOf, planOf, listingsPlan}
+use Rattle.runs.proofs.FrameCopies.{writing, reading, listings-have, copies-have}
 use Rattle.times.proofs.PointsInRound.{publishes-in-round, serves-in-round}
 use Rattle.table.proofs.Sound.{Sound}
 
@@ -58,8 +58,9 @@ module _ (table : Table) (sound : Sound table) where
   write-made : (l t : ℕ) → listingsPlan table .writes l t ≡ true → written table l t ≡ true
   unfolding listingsPlan planOf
   write-made l t made =
-      let (core, known, copied) = someBelow-finds (table .cores) _ made in
-      let among = sym (frames-have (isWriteOf l) table core _ (in-round t) ∙ write-among l core _) ∙ copied in
+      let due = listings-have (isWriteOf l) table t (in-round t) in
+      let (core, known, copied) = someBelow-finds (table .cores) _ (sym due ∙ made) in
+      let among = sym (write-among l core _) ∙ copied in
       let (k, label, found) = someBelow-finds (table .labels) _ among in
       let (at-core, same) = and-parts _ (eqb k l) found in
       let there = eqb (coreOf table (writerOf table k)) core in
@@ -82,8 +83,9 @@ module _ (table : Table) (sound : Sound table) where
   unfolding listingsPlan planOf
   made-write l t is =
       let core = coreOf table (writerOf table l) in
-      someBelow-found (table .cores) _ core (sound .core-known _ (sound .writer-known l))
-      (frames-have (isWriteOf l) table core _ (in-round t) ∙ write-among l core _
+      listings-have (isWriteOf l) table t (in-round t)
+      ∙ someBelow-found (table .cores) _ core (sound .core-known _ (sound .writer-known l))
+      (write-among l core _
       ∙ someBelow-found (table .labels) _ l (label-written l t is)
       (and-of-parts (eqb core core && written table l _) (eqb l l)
       (and-of-parts (eqb core core) _ (eq-eqb core core refl) (written-in-round l t ∙ is)) (eq-eqb l l refl)))
@@ -92,8 +94,9 @@ module _ (table : Table) (sound : Sound table) where
   read-made : (l r t : ℕ) → listingsPlan table .serves l r t ≡ true → served table l r t ≡ true
   unfolding listingsPlan planOf
   read-made l r t made =
-      let (core, known, copied) = someBelow-finds (table .cores) _ made in
-      let among = sym (frames-have (isReadOf l r) table core _ (in-round t) ∙ read-among l r core _) ∙ copied in
+      let due = listings-have (isReadOf l r) table t (in-round t) in
+      let (core, known, copied) = someBelow-finds (table .cores) _ (sym due ∙ made) in
+      let among = sym (read-among l r core _) ∙ copied in
       let (k, label, row) = someBelow-finds (table .labels) _ among in
       let (q, task, found) = someBelow-finds (table .tasks) _ row in
       let (at-core, same) = and-parts _ (eqb k l && eqb q r) found in
@@ -109,8 +112,9 @@ module _ (table : Table) (sound : Sound table) where
       let core = coreOf table r in
       let reader = reader-served l r t is in
       let known = sound .reader-known l r reader in
-      someBelow-found (table .cores) _ core (sound .core-known r known)
-      (frames-have (isReadOf l r) table core _ (in-round t) ∙ read-among l r core _
+      listings-have (isReadOf l r) table t (in-round t)
+      ∙ someBelow-found (table .cores) _ core (sound .core-known r known)
+      (read-among l r core _
       ∙ someBelow-found (table .labels) _ l (sound .label-known l r reader)
       (someBelow-found (table .tasks) _ r known
       (and-of-parts (eqb core core && served table l r _) (eqb l l && eqb r r)
