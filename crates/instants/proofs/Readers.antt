@@ -1,9 +1,9 @@
--- The next reader: it is marked and at or after where the search began, and none between is marked; so going from one to
--- the next meets each marked task, by rising number. Assumes nothing.
-use Prim.Native.Nat.{ℕ, suc, _+_, _<_, _≤_}
+-- The next reader: it is marked and at or after where the search began, and none between is marked; so going from one
+-- to the next meets each marked task, by rising number. Assumes nothing.
+use Prim.Native.Nat.{ℕ, _+_, _<_, _≤_}
 use mathlib.Core.Path.{_≡_, sym, ap, _∙_}
 use mathlib.Core.Logic.{by-cases}
-use mathlib.Core.Bool.{Bool, true, false, cond, _&&_}
+use mathlib.Core.Bool.{Bool, true, false, _&&_}
 use mathlib.Core.List.{List, [], _∷_, _++_}
 use native.Mathlib.Decide.{decLt}
 use native.Mathlib.Numerals.{add-one}
@@ -15,7 +15,7 @@ use Rattle.lists.specs.Lists.{eachBelow, onlyIf}
 use Rattle.lists.proofs.Bools.{and-parts}
 use Rattle.lists.proofs.Below.{each-below-less}
 use Rattle.table.specs.Table.{marks}
-use Rattle.instants.specs.Readers.{firstBelow, nextReader}
+use Rattle.instants.specs.Readers.{nextReader}
 use Rattle.instants.proofs.First.{First, first-found, first-only}
 
 -- no task from one up to another is marked
@@ -55,7 +55,8 @@ module _ (readers from : ℕ) where
       → Unmarked readers from r → r ≡ nextReader readers from
   unfolding nextReader
   is-next {r} few late marked none =
-      first-only (record { within = omega arith; before = passed-over none; passes = λ less. rw (le-leb from r late) marked })
+      first-only
+      (record { within = omega arith; before = passed-over none; passes = λ less. rw (le-leb from r late) marked })
 
   pub no-next : Unmarked readers from 32 → 32 ≡ nextReader readers from
   unfolding nextReader
@@ -65,7 +66,8 @@ module _ (readers from : ℕ) where
   -- one more task is not marked
   pub one-more-unmarked : (r : ℕ) → Unmarked readers from r → marks readers r ≡ false → Unmarked readers from (r + 1)
   one-more-unmarked r none fails j late less =
-      below-more (λ j. from ≤ j → marks readers j ≡ false) r (λ j less late. none j late less) (λ late. fails) j less late
+      below-more (λ j. from ≤ j → marks readers j ≡ false) r (λ j less late. none j late less) (λ late. fails) j
+      less late
 
 -- a walk from one marked task to the next: what it meets, each by what it adds
 module _ {A : Type 0} (readers : ℕ) (f : ℕ → A) where
@@ -83,7 +85,8 @@ module _ {A : Type 0} (readers : ℕ) (f : ℕ → A) where
       → met (nextReader readers from + 1) ≡ met from ++ (f (nextReader readers from) ∷ [])
   unfolding eachBelow
   walk-meets from below =
-      rw (add-one, next-marked readers from below) (ap (λ l. l ++ (f (nextReader readers from) ∷ [])) (skipped from (next-from readers from below)))
+      rw (add-one, next-marked readers from below)
+      (ap (λ l. l ++ (f (nextReader readers from) ∷ [])) (skipped from (next-from readers from below)))
 
   -- where none is left, all are met
   pub walk-ends : (from : ℕ) → from ≤ 32 → nextReader readers from ≡ 32 → met 32 ≡ met from
