@@ -1,7 +1,7 @@
 -- The next reader: it is marked and at or after where the search began, and none between is marked; so going from one
 -- to the next meets each marked task, by rising number. Assumes nothing.
 use Prim.Native.Nat.{ℕ, _+_, _<_, _≤_}
-use mathlib.Core.Path.{_≡_, sym, ap, _∙_}
+use mathlib.Core.Path.{_≡_}
 use mathlib.Core.Logic.{by-cases}
 use mathlib.Core.Bool.{Bool, true, false, _&&_}
 use mathlib.Core.List.{List, [], _∷_, _++_}
@@ -69,25 +69,19 @@ module _ (readers from : ℕ) where
       below-more (λ j. from ≤ j → marks readers j ≡ false) r (λ j less late. none j late less) (λ late. fails) j
       less late
 
--- a walk from one marked task to the next: what it meets, each by what it adds
+-- a walk from one marked task to the next, and what those that it met have to add
 module _ {A : Type 0} (readers : ℕ) (f : ℕ → A) where
   abbrev pub met : ℕ → List A
   met n = eachBelow n (λ r. onlyIf (marks readers r) (f r))
 
-  -- up to the next marked task there is nothing to meet
-  skipped : (from : ℕ) → from ≤ nextReader readers from → met (nextReader readers from) ≡ met from
-  skipped from late =
-      each-below-less from (nextReader readers from) _ late
-      (λ j after less. rw (none-between readers from j after less))
+  -- up to the next marked task there is none to meet
+  pub walk-on : (from : ℕ) → from ≤ 32 → met (nextReader readers from) ≡ met from
+  walk-on from few =
+      let late : from ≤ nextReader readers from =
+      by-cases (decLt (nextReader readers from) 32) (next-from readers from) (λ none. omega arith) in
+      each-below-less from (nextReader readers from) _ late (λ j after less. rw (none-between readers from j after less))
 
-  -- and then that task
-  pub walk-meets : (from : ℕ) → nextReader readers from < 32
-      → met (nextReader readers from + 1) ≡ met from ++ (f (nextReader readers from) ∷ [])
+  -- and a marked task is met
+  pub walk-meets : (r : ℕ) → marks readers r ≡ true → met (r + 1) ≡ met r ++ (f r ∷ [])
   unfolding eachBelow
-  walk-meets from below =
-      rw (add-one, next-marked readers from below)
-      (ap (λ l. l ++ (f (nextReader readers from) ∷ [])) (skipped from (next-from readers from below)))
-
-  -- where none is left, all are met
-  pub walk-ends : (from : ℕ) → from ≤ 32 → nextReader readers from ≡ 32 → met 32 ≡ met from
-  walk-ends from few none = ap met (sym none) ∙ skipped from (omega arith)
+  walk-meets r marked = rw (add-one, marked)
