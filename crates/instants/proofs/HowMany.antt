@@ -2,7 +2,7 @@
 -- nothing.
 use Prim.Native.Nat.{ℕ, _+_, _*_, _^_, _<_, _≤_, min}
 use mathlib.Core.Path.{_≡_, refl}
-use mathlib.Core.List.{List}
+use mathlib.Core.List.{List, [], _∷_}
 use native.Mathlib.Numerals.{add-one}
 use native.Mathlib.Omega.{arith}
 use borrow.Author.Tests.{ne-eqb}
@@ -13,7 +13,7 @@ use Rattle.lists.specs.Lists.{someBelow, eachBelow}
 use Rattle.lists.proofs.Each.{length-each-below, length-only-if}
 use Rattle.copies.specs.Copies.{write, read}
 use Rattle.instants.specs.Due.{inBoth, writeDue, readsDue, writerDue, writesDue, allReadsDue, copiesDue}
-use Rattle.instants.proofs.Counted.{some-common, count-common}
+use Rattle.readers.proofs.Counted.{some-common, count-common}
 
 -- a label has at most one write, and 32 reads
 few-writes : (readers mask l w : ℕ) → length (writeDue readers mask l w) ≤ 1
@@ -27,11 +27,11 @@ few-reads readers mask l =
 
 module _ (readers mask : ℕ) (few : readers < 2 ^ 32) (less : mask < 2 ^ 32) (l : ℕ) where
   -- a label is written where the masks of its readers and its writer have a task in common
-  pub write-none : (w : ℕ) → bitAnd readers mask ≡ 0 → length (writeDue readers mask l w) ≡ 0
+  pub write-none : (w : ℕ) → bitAnd readers mask ≡ 0 → writeDue readers mask l w ≡ []
   unfolding writeDue
   write-none w none = rw (some-common readers mask few less, none)
 
-  pub write-one : (w : ℕ) → ¬ (bitAnd readers mask ≡ 0) → length (writeDue readers mask l w) ≡ 1
+  pub write-one : (w : ℕ) → ¬ (bitAnd readers mask ≡ 0) → writeDue readers mask l w ≡ write l w ∷ []
   unfolding writeDue
   write-one w some = rw (some-common readers mask few less, ne-eqb _ 0 some)
 

@@ -1,7 +1,3 @@
--- Laws of the definitions.
-pub mod First
-pub mod Counted
+-- Laws of this crate.
 pub mod HowMany
-pub mod Masks
 pub mod OfTable
-pub mod Readers

@@ -1,3 +1,2 @@
 -- Definitions of this crate.
 pub mod Due
-pub mod Readers

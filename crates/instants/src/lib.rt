@@ -4,22 +4,6 @@ ghost use mathlib.Core.Path.{_≡_};
 ghost use Prim.Native.Nat.{ℕ, _+_, min};
 ghost use lib.ListN.{length};
 ghost use Rattle.instants.specs.Due.{writeDue, readsDue, copiesDue};
-ghost use Rattle.instants.specs.Readers.{nextReader};
-use table::marked;
-
-// The first task at or after `from` that a readers field marks, or 32.
-pub fn next_reader(readers: u32, from: u32) -> u32
-    ensures { λ r. ⌜ r ≡ nextReader readers from ⌝ }
-{
-    let mut r = from;
-    while r < 32 {
-        if marked(readers, r as u64) {
-            return r;
-        }
-        r += 1;
-    }
-    32
-}
 
 // How many labels the arrays hold.
 fn held(labels: usize) -> usize

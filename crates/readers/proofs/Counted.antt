@@ -17,7 +17,7 @@ use Rattle.lists.specs.Lists.{someBelow, eachBelow, onlyIf}
 use Rattle.lists.proofs.Lists.{someBelow-same}
 use Rattle.lists.proofs.Below.{each-below-same}
 use Rattle.table.specs.Table.{marks}
-use Rattle.instants.proofs.Masks.{and-marks}
+use Rattle.readers.proofs.Masks.{and-marks}
 
 -- bit r of a mask of n bits is 1, counted from the most significant one
 abbrev bit-set : (n mask r : ℕ) → Bool

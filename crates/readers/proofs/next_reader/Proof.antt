@@ -1,11 +1,11 @@
--- `instants::next_reader` meets its contract. The loop's invariant: no task from where the search began up to the one
+-- `readers::next_reader` meets its contract. The loop's invariant: no task from where the search began up to the one
 -- met is marked. Assumes nothing.
 use Prim.Native.Nat.{_-_, _≤_}
 use mathlib.Core.Path.{sym, _∙_}
 use native.Mathlib.Omega.{arith}
-use Rattle.instants.proofs.Readers.{Unmarked, is-next, no-next, one-more-unmarked}
-use Rattle.instants.proofs.next_reader.Statement.{statement}
-use Rattle.instants.proofs.next_reader.Tie as tie
+use Rattle.readers.proofs.Walk.{Unmarked, is-next, no-next, one-more-unmarked}
+use Rattle.readers.proofs.next_reader.Statement.{statement}
+use Rattle.readers.proofs.next_reader.Tie as tie
 
 abbrev Inv-loop : tie.InvT-loop
 Inv-loop readers from r₀ r = (from ≤ r) × Unmarked readers from r

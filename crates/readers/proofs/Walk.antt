@@ -1,6 +1,6 @@
 -- The next reader: it is marked and at or after where the search began, and none between is marked; so going from one
 -- to the next meets each marked task, by rising number. Assumes nothing.
-use Prim.Native.Nat.{ℕ, _+_, _<_, _≤_}
+use Prim.Native.Nat.{ℕ, _+_, _-_, _<_, _≤_}
 use mathlib.Core.Path.{_≡_}
 use mathlib.Core.Logic.{by-cases}
 use mathlib.Core.Bool.{Bool, true, false, _&&_}
@@ -15,14 +15,15 @@ use Rattle.lists.specs.Lists.{eachBelow, onlyIf}
 use Rattle.lists.proofs.Bools.{and-parts}
 use Rattle.lists.proofs.Below.{each-below-less}
 use Rattle.table.specs.Table.{marks}
-use Rattle.instants.specs.Readers.{nextReader}
-use Rattle.instants.proofs.First.{First, first-found, first-only}
+use Rattle.readers.specs.NextReader.{nextReader}
+use Rattle.readers.proofs.First.{First, first-found, first-only}
 
 -- no task from one up to another is marked
 abbrev pub Unmarked : (readers from to : ℕ) → Type 0
 Unmarked readers from to = (j : ℕ) → from ≤ j → j < to → marks readers j ≡ false
 
 module _ (readers from : ℕ) where
+  -- a task at or after where the search began that is marked
   abbrev next-test : ℕ → Bool
   next-test r = leb from r && marks readers r
 
@@ -34,8 +35,10 @@ module _ (readers from : ℕ) where
   next-within = found .within
 
   -- it is at or after, and it is marked
-  pub next-from : nextReader readers from < 32 → from ≤ nextReader readers from
-  next-from below = leb-true _ _ (and-parts _ _ (found .passes below) .0)
+  pub next-from : from ≤ 32 → from ≤ nextReader readers from
+  next-from few =
+      by-cases (decLt (nextReader readers from) 32)
+      (λ below. leb-true _ _ (and-parts _ _ (found .passes below) .0)) (λ none. omega arith)
 
   pub next-marked : nextReader readers from < 32 → marks readers (nextReader readers from) ≡ true
   next-marked below = and-parts (leb from _) _ (found .passes below) .1
@@ -44,8 +47,7 @@ module _ (readers from : ℕ) where
   pub none-between : Unmarked readers from (nextReader readers from)
   none-between j late less = rw (le-leb from j late) at (found .before j less)
 
-  passed-over : {r : ℕ} → Unmarked readers from r
-      → (j : ℕ) → j < r → next-test j ≡ false
+  passed-over : {r : ℕ} → Unmarked readers from r → (j : ℕ) → j < r → next-test j ≡ false
   passed-over none j less =
       by-cases (decLt j from) (λ early. rw (lt-leb from j early))
       (λ late. rw (le-leb from j (omega arith)) (none j (omega arith) less))
@@ -69,17 +71,21 @@ module _ (readers from : ℕ) where
       below-more (λ j. from ≤ j → marks readers j ≡ false) r (λ j less late. none j late less) (λ late. fails) j
       less late
 
--- a walk from one marked task to the next, and what those that it met have to add
+-- after a task the next one is nearer to the end
+pub next-nearer : (readers : ℕ) {r s : ℕ} → r < 32 → s ≡ nextReader readers (r + 1) → 32 - s < 32 - r
+next-nearer readers {r} below is = let later = next-from readers (r + 1) (omega arith) in omega arith
+
+-- a walk from one marked task to the next
 module _ {A : Type 0} (readers : ℕ) (f : ℕ → A) where
+  -- what the marked tasks below n have to add, by rising task
   abbrev pub met : ℕ → List A
   met n = eachBelow n (λ r. onlyIf (marks readers r) (f r))
 
   -- up to the next marked task there is none to meet
   pub walk-on : (from : ℕ) → from ≤ 32 → met (nextReader readers from) ≡ met from
   walk-on from few =
-      let late : from ≤ nextReader readers from =
-      by-cases (decLt (nextReader readers from) 32) (next-from readers from) (λ none. omega arith) in
-      each-below-less from (nextReader readers from) _ late (λ j after less. rw (none-between readers from j after less))
+      each-below-less from (nextReader readers from) _ (next-from readers from few)
+      (λ j after less. rw (none-between readers from j after less))
 
   -- and a marked task is met
   pub walk-meets : (r : ℕ) → marks readers r ≡ true → met (r + 1) ≡ met r ++ (f r ∷ [])
