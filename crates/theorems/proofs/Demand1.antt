@@ -28,6 +28,10 @@ use Rattle.writing.proofs.LargestImage.{largest-image}
 use Rattle.writing.proofs.LargestReached as reached
 use Rattle.questions.specs.Questions.{points, listing, lentAfter, ages}
 use Rattle.questions.proofs.Determined.{same-refusal-whichever-question}
+use Rattle.capi.proofs.pairs.liskobran_points_slice.Met as c-points-met
+use Rattle.capi.proofs.pairs.liskobran_points_slice.Statement as c-points
+use Rattle.capi.proofs.reading.liskobran_read_slice.Met as c-read-met
+use Rattle.capi.proofs.reading.liskobran_read_slice.Statement as c-read
 
 -- The reader of the image, run on the language's machine, ends on every string of bytes and answers as its contract
 -- says (crates/images, src/lib.rt): what document 01's definition `readImage` says of the image, and of a refused one no
@@ -77,3 +81,12 @@ pub same-refusal : (image : List ℕ) (number place : ℕ) → answerOf image �
     × (lentAfter (listing image core (length buffer)) buffer ≡ buffer))
     × ((chain : ℕ) → ages image chain ≡ refuses number place)
 same-refusal = same-refusal-whichever-question
+
+-- The C interface says the same (crates/capi, src): number 0 and the values of an answer, or the refusal's number and
+-- place and 0 for each value.
+--     r ≡ readSaid (answerOf image),  r ≡ pointsSaid (points image writer reader n)
+pub c-reader-answers : {M : Type 1} → c-read.statement M
+c-reader-answers = c-read-met.met
+
+pub c-points-answered : {M : Type 1} → c-points.statement M
+c-points-answered = c-points-met.met
