@@ -2,8 +2,8 @@
 // where the question is answered, and else that of document 01, Numbers that say no. What each answer says:
 // specs/Said.antt. No function requires anything. A slice has an address that is not null; include/liskobran.h declares
 // the functions for C, and others over them that take an empty image by any address.
-mod pairs;
-mod reading;
+pub mod pairs;
+pub mod reading;
 
 // Of an image: 0 and 0 where it is accepted, else the refusal's number and place.
 #[repr(C)]
