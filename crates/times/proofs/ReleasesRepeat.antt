@@ -7,10 +7,10 @@ use native.Mathlib.Omega.{arith}
 use lib.Dec.{eqb, ltb}
 use borrow.Author.Tests.{ltb-true, lt-ltb}
 use Rattle.lists.proofs.Bools.{same-test}
-use Rattle.times.specs.Releases.{Timing, isRelease, firstFrom}
-use Rattle.times.proofs.Releases.{lastTo, firstFrom-is, firstFrom-is-release, firstFrom-at-least, firstFrom-near}
+use Rattle.times.specs.PointTests.{releasedFrom, releasedTo}
+use Rattle.times.specs.Releases.{Timing, isRelease, firstFrom, lastTo}
+use Rattle.times.proofs.Releases.{firstFrom-is, firstFrom-is-release, firstFrom-at-least, firstFrom-near}
 use Rattle.times.proofs.Releases.{lastTo-is, lastTo-is-release, lastTo-at-most, lastTo-near}
-use Rattle.times.proofs.ReleasesWithin.{releasedFrom, releasedTo}
 
 same-order : (a b c d : ℕ) → (a < b → c < d) → (c < d → a < b) → ltb a b ≡ ltb c d
 same-order a b c d to from =
