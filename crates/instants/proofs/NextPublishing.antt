@@ -1,6 +1,7 @@
--- Of periods above 0, what `next_publishing` answers is the first publishing point from the tick on. Assumes nothing.
-use Prim.Native.Nat.{ℕ, _<_, _≤_}
-use mathlib.Core.Path.{_≡_}
+-- Of periods above 0, what `next_publishing` answers is the first publishing point from the tick on, and what
+-- `publishing_after` answers of a release of the writer is the first after it. Assumes nothing.
+use Prim.Native.Nat.{ℕ, suc, _<_, _≤_}
+use mathlib.Core.Path.{_≡_, subst}
 use mathlib.Core.Bool.{true}
 use mathlib.Core.Logic.{⊎-elim, by-cases}
 use native.Mathlib.Decide.{decLe}
@@ -12,8 +13,9 @@ use Rattle.times.specs.Releases.{Timing, isRelease, firstFrom, lastTo}
 use Rattle.times.specs.PointTests.{publishingTest, releasedFrom}
 use Rattle.times.proofs.Releases.{firstFrom-is-release, firstFrom-at-least, firstFrom-first, releases-apart}
 use Rattle.times.proofs.Releases.{lastTo-is-release, lastTo-at-most, lastTo-near, lastTo-last}
+use Rattle.times.proofs.ReleasesRepeat.{firstFrom-after}
 use Rattle.times.proofs.ReleasesWithin.{released-from-finds, released-from-found}
-use Rattle.instants.specs.Next.{NextFrom, nextPublishing}
+use Rattle.instants.specs.Next.{NextFrom, publishingFrom, nextPublishing, publishingAfter}
 
 module _ (writer reader : Timing) (writes : 0 < writer .period) (reads : 0 < reader .period) (t : ℕ) where
   -- of a slower writer
@@ -66,9 +68,18 @@ module _ (writer reader : Timing) (writes : 0 < writer .period) (reads : 0 < rea
             releases-apart writer writes u next released (lastTo-is-release writer x) before,
           )
 
+  -- at or after t
   pub publishing-next : NextFrom (publishingTest writer reader) t (nextPublishing writer reader t)
-  unfolding nextPublishing
+  unfolding publishingFrom
   publishing-next =
       by-cases (decLe (reader .period) (writer .period))
       (λ le. rw (le-leb _ _ le) (slower le))
       (λ more. rw (lt-leb (reader .period) (writer .period) (omega arith)) (faster (omega arith)))
+
+module _ (writer reader : Timing) (writes : 0 < writer .period) (reads : 0 < reader .period) where
+  -- after a release of the writer
+  pub publishing-after : (t : ℕ) → isRelease writer t ≡ true
+      → NextFrom (publishingTest writer reader) (suc t) (publishingAfter writer reader t)
+  publishing-after t released =
+      subst (λ release. NextFrom (publishingTest writer reader) (suc t) (publishingFrom writer reader release))
+      (firstFrom-after writer writes t released) (publishing-next writer reader writes reads (suc t))

@@ -1,6 +1,7 @@
--- Of periods above 0, what `next_reading` answers is the first reading point from the tick on. Assumes nothing.
+-- Of periods above 0, what `next_reading` answers is the first reading point from the tick on, and what
+-- `reading_after` answers of a release of the reader is the first after it. Assumes nothing.
 use Prim.Native.Nat.{ℕ, suc, _-_, _<_, _≤_}
-use mathlib.Core.Path.{_≡_}
+use mathlib.Core.Path.{_≡_, subst}
 use mathlib.Core.Bool.{true}
 use mathlib.Core.Logic.{⊎-elim, by-cases}
 use native.Mathlib.Decide.{decLe, decLt}
@@ -12,8 +13,9 @@ use Rattle.times.specs.Releases.{Timing, isRelease, firstFrom}
 use Rattle.times.specs.PointTests.{readingTest, releasedTo}
 use Rattle.times.proofs.Releases.{firstFrom-is-release, firstFrom-at-least, firstFrom-near, firstFrom-first}
 use Rattle.times.proofs.Releases.{releases-apart}
+use Rattle.times.proofs.ReleasesRepeat.{firstFrom-after}
 use Rattle.times.proofs.ReleasesWithin.{released-to-finds, released-to-found}
-use Rattle.instants.specs.Next.{NextFrom, nextReading}
+use Rattle.instants.specs.Next.{NextFrom, readingFrom, nextReading, readingAfter}
 
 module _ (writer reader : Timing) (writes : 0 < writer .period) (reads : 0 < reader .period) (t : ℕ) where
   -- of a slower reader
@@ -71,9 +73,18 @@ module _ (writer reader : Timing) (writes : 0 < writer .period) (reads : 0 < rea
           let written = firstFrom-first writer writes since s of-writer wanted in
           omega (arith, firstFrom-first reader reads w u released (omega arith))
 
+  -- at or after t
   pub reading-next : NextFrom (readingTest writer reader) t (nextReading writer reader t)
-  unfolding nextReading
+  unfolding readingFrom
   reading-next =
       by-cases (decLe (writer .period) (reader .period))
       (λ le. rw (le-leb _ _ le) (slower le))
       (λ more. rw (lt-leb (writer .period) (reader .period) (omega arith)) (faster (omega arith)))
+
+module _ (writer reader : Timing) (writes : 0 < writer .period) (reads : 0 < reader .period) where
+  -- after a release of the reader
+  pub reading-after : (t : ℕ) → isRelease reader t ≡ true
+      → NextFrom (readingTest writer reader) (suc t) (readingAfter writer reader t)
+  reading-after t released =
+      subst (λ release. NextFrom (readingTest writer reader) (suc t) (readingFrom writer reader release))
+      (firstFrom-after reader reads t released) (reading-next writer reader writes reads (suc t))

@@ -1,14 +1,14 @@
 // The points of a pair of tasks by the tick: whether a tick is one, and which is the next (document 01: Points; Copies
-// and frames). A slower task's points are all its releases; a faster task's are those beside the releases of the slower
-// one: the last at or before each for a writer, the first at or after it for a reader. With a period of 0 the answers
-// are what the definitions give; a table has none (document 01: refusal 5).
+// and frames). With a period of 0 the answers are what the definitions give; a table has none (document 01: refusal 5).
 ghost use mathlib.Core.Path.{_≡_};
 ghost use Rattle.times.specs.PointTests.{publishingTest, readingTest};
-ghost use Rattle.instants.specs.Next.{nextPublishing, nextReading};
+ghost use Rattle.instants.specs.Next.{nextPublishing, nextReading, publishingAfter, readingAfter};
 
+mod beside;
 mod releases;
 
-use releases::after_previous;
+use beside::publishing_from;
+use beside::reading_from;
 use releases::first_from;
 use releases::is_release;
 use releases::last_to;
@@ -46,20 +46,26 @@ pub fn serves_at(writer: Timing, reader: Timing, t: u32) -> bool
 pub fn next_publishing(writer: Timing, reader: Timing, t: u32) -> u64
     ensures { λ r. ⌜ r ≡ nextPublishing writer reader t ⌝ }
 {
-    let release = first_from(writer, t as u64);
-    if reader.period <= writer.period {
-        return release;
-    }
-    last_to(writer, first_from(reader, release))
+    publishing_from(writer, reader, first_from(writer, t as u64))
+}
+
+// The first publishing point of the pair after one of them, or after any release of the writer.
+pub fn publishing_after(writer: Timing, reader: Timing, point: u32) -> u64
+    ensures { λ r. ⌜ r ≡ publishingAfter writer reader point ⌝ }
+{
+    publishing_from(writer, reader, point as u64 + writer.period as u64)
 }
 
 // The first reading point of the pair at or after tick t.
 pub fn next_reading(writer: Timing, reader: Timing, t: u32) -> u64
     ensures { λ r. ⌜ r ≡ nextReading writer reader t ⌝ }
 {
-    let release = first_from(reader, t as u64);
-    if writer.period <= reader.period {
-        return release;
-    }
-    first_from(reader, first_from(writer, after_previous(reader, release)))
+    reading_from(writer, reader, first_from(reader, t as u64))
+}
+
+// The first reading point of the pair after one of them, or after any release of the reader.
+pub fn reading_after(writer: Timing, reader: Timing, point: u32) -> u64
+    ensures { λ r. ⌜ r ≡ readingAfter writer reader point ⌝ }
+{
+    reading_from(writer, reader, point as u64 + reader.period as u64)
 }

@@ -1,6 +1,6 @@
 // Releases of one task beside a tick.
 ghost use mathlib.Core.Path.{_≡_};
-ghost use Prim.Native.Nat.{_<_, _-_, _^_, suc};
+ghost use Prim.Native.Nat.{_<_, _+_, _-_, _^_, suc};
 ghost use Rattle.times.specs.Releases.{isRelease, firstFrom, lastTo};
 use times::Timing;
 
@@ -14,10 +14,10 @@ pub(crate) fn is_release(task: Timing, t: u64) -> bool
     t % task.period as u64 == 0
 }
 
-// The task's first release at or after t.
+// The task's first release at or after t, less than 2^32 ticks away.
 pub(crate) fn first_from(task: Timing, t: u64) -> u64
     requires { ⌜ t < 2 ^ 40 ⌝ }
-    ensures { λ r. ⌜ r ≡ firstFrom task t ⌝ }
+    ensures { λ r. ⌜ (r ≡ firstFrom task t) × (r < t + 2 ^ 32) ⌝ }
 {
     if task.period == 0 {
         return 0;

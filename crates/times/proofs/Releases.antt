@@ -42,11 +42,6 @@ pub lastTo-at-most : (task : Timing) (t : ℕ) → lastTo task t ≤ t
 unfolding lastTo release
 lastTo-at-most task t = div-mul-le-self t (task .period)
 
--- the first release at or after t is no more than a period away
-pub firstFrom-at-most : (task : Timing) (t : ℕ) → firstFrom task t ≤ t + task .period
-unfolding firstFrom release
-firstFrom-at-most task t = omega (arith, div-mul-le-self (t + (task .period - 1)) (task .period))
-
 module _ (task : Timing) (positive : 0 < task .period) where
   -- a later release is at least a period later
   pub releases-apart

@@ -23,7 +23,7 @@ returns-3 c =
     rw (
       sym (start .before .is-release .ensures) ∙ not-false _ (start .if1 .left),
       lt-leb _ _ (slower .if2 .left),
-      c .before .first-from .ensures,
+      c .before .first-from .ensures .0,
     )
 
 pub publishes-at-spec : {M : Type 1} → statement M
