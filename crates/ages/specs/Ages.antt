@@ -23,7 +23,7 @@ pub record Chain : Type 0 where
   pub first : Timing
   pub others : List Timing
 
--- E(t), the end of a start t
+-- E(t), the end of a start t, "counted as the end of a job of task 1": the tasks after it are followed
 unfoldable pub endOf : Chain → ℕ → ℕ
 endOf chain t = follow (chain .others) t
 

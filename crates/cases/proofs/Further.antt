@@ -7,7 +7,7 @@ use Rattle.bits.specs.Packing.{bitsOf, bitsOfAll, formedBy, bytesOf, bytesFor, 
 use Rattle.times.specs.Releases.{release, isRelease, jobEnd, firstFrom}
 use Rattle.times.specs.Hyperperiod.{gcdIn, gcd, lcm, lcmFrom, lcmOf}
 use Rattle.times.specs.Points.{publishing, reading, isPublishing, isReading, publishesAt, servesAt}
-use Rattle.table.specs.Reading.{field, inRow, check}
+use Rattle.taking.specs.Reading.{field, inRow, check, zeroBits, nothingFollows}
 use Rattle.table.specs.Table.{coreOf, periodOf, timingOf, writerOf, marks, reads, joins, chainOf, hyperperiodOf}
 use Rattle.table.specs.Image.{between, headFields, taskFields, rightReaders, labelFields, tableOf, rowsOf, stepHolds}
 use Rattle.table.specs.Image.{chainTask, chainFields, fill, allFields, wholeFields, readImage}
@@ -26,7 +26,7 @@ use Rattle.cases.specs.Further.{further}
 pub further-cases-hold : AllHold further
 unfolding Holds someBelow eachBelow eachOf padded bitCount bitAt fieldAt bitsOf bitsOfAll formedBy
     bytesOf bytesFor packed release isRelease jobEnd firstFrom gcdIn gcd lcm lcmFrom lcmOf publishing reading
-    isPublishing isReading publishesAt servesAt field foundAt inRow check coreOf periodOf timingOf writerOf
+    isPublishing isReading publishesAt servesAt field foundAt inRow check zeroBits nothingFollows coreOf periodOf timingOf writerOf
     marks reads joins chainOf hyperperiodOf between headFields taskFields rightReaders labelFields tableOf
     rowsOf stepHolds chainTask chainFields fill allFields wholeFields readImage answerOf written served
     writesAt readsAt copiesAt framesAt framesOf copyFields frameFields listingFields listingOf listedPlan fullPlan
@@ -41,4 +41,5 @@ further-cases-hold =
     also refl also refl also refl also refl also refl also refl also refl also refl also refl also refl
     also refl also refl also refl also refl also refl also refl also refl also refl also refl also refl
     also refl also refl also refl also refl also refl also refl also refl also refl also refl also refl
-    also refl also refl also refl also refl also refl also none
+    also refl also refl also refl also refl also refl also refl also refl also refl also refl
+    also none

@@ -7,7 +7,7 @@ use Rattle.bits.specs.Packing.{bitsOf, bitsOfAll, formedBy, bytesOf, bytesFor, 
 use Rattle.times.specs.Releases.{release, jobEnd, firstFrom}
 use Rattle.times.specs.Hyperperiod.{gcdIn, gcd, lcm, lcmFrom, lcmOf}
 use Rattle.times.specs.Points.{publishing, reading, isPublishing, isReading, publishesAt, servesAt}
-use Rattle.table.specs.Reading.{field, inRow, check}
+use Rattle.taking.specs.Reading.{field, inRow, check, zeroBits, nothingFollows}
 use Rattle.table.specs.Table.{coreOf, periodOf, timingOf, writerOf, marks, reads, joins, hyperperiodOf}
 use Rattle.table.specs.Image.{between, headFields, taskFields, rightReaders, labelFields, tableOf, rowsOf, stepHolds}
 use Rattle.table.specs.Image.{chainTask, chainFields, fill, allFields, wholeFields, readImage}
@@ -18,47 +18,17 @@ use Rattle.ages.specs.Ages.{follow, endOf, isBasic, lengthOf, ageOf, roundOf, b
 use Rattle.ages.specs.Ages.{bestAge, agesOf}
 use Rattle.questions.specs.Questions.{listing}
 use Rattle.printing.specs.FirstLine.{hyperperiod}
-use Rattle.cases.specs.Starred.{AllHold, Holds, starred}
+use Rattle.cases.specs.Kinds.{AllHold, none, _also_, Holds}
+use Rattle.cases.specs.Starred.{starred}
 
 pub starred-cases-hold : AllHold starred
-unfolding AllHold Holds someBelow eachBelow eachOf padded bitCount bitAt fieldAt bitsOf bitsOfAll formedBy
+unfolding Holds someBelow eachBelow eachOf padded bitCount bitAt fieldAt bitsOf bitsOfAll formedBy
     bytesOf bytesFor packed release jobEnd firstFrom gcdIn gcd lcm lcmFrom lcmOf publishing reading
-    isPublishing isReading publishesAt servesAt field foundAt inRow check coreOf periodOf timingOf writerOf
+    isPublishing isReading publishesAt servesAt field foundAt inRow check zeroBits nothingFollows coreOf periodOf timingOf writerOf
     marks reads joins hyperperiodOf between headFields taskFields rightReaders labelFields tableOf
     rowsOf stepHolds chainTask chainFields fill allFields wholeFields readImage answerOf written served
     writesAt readsAt copiesAt framesAt framesOf copyFields frameFields listingFields listingOf follow
     endOf isBasic lengthOf ageOf roundOf basicPaths largest least worstAge bestAge agesOf listing hyperperiod
-starred-cases-hold = (
-  (refl, refl),
-  (
-    (refl, refl),
-    (
-      (refl, refl),
-      (
-        (refl, refl),
-        (
-          refl,
-          (
-            refl,
-            (
-              refl,
-              (
-                refl,
-                (
-                  refl,
-                  (
-                    refl,
-                    (
-                      refl,
-                      (refl, (refl, tt)),
-                    ),
-                  ),
-                ),
-              ),
-            ),
-          ),
-        ),
-      ),
-    ),
-  ),
-)
+starred-cases-hold =
+    refl also refl also refl also refl also refl also refl also refl also refl also refl also refl
+    also refl also refl also refl also none

@@ -1,4 +1,4 @@
--- The images that document 01's cases speak of. Assumes nothing.
+-- The images that document 01's cases speak of, and what is said of its example. Assumes nothing.
 use Prim.Native.Nat.{ℕ}
 use mathlib.Core.List.{List, [], _∷_}
 
@@ -16,6 +16,12 @@ periods999and1001 = 0x11 ∷ 0x08 ∷ 0x00 ∷ 0x00 ∷ 0x01 ∷ 0xf3 ∷ 0x80 �
 -- one core, two tasks of the periods 1000 and 1001, nothing else
 abbrev pub periods1000and1001 : List ℕ
 periods1000and1001 = 0x11 ∷ 0x08 ∷ 0x00 ∷ 0x00 ∷ 0x01 ∷ 0xf4 ∷ 0x00 ∷ 0x03 ∷ 0xe9 ∷ []
+
+-- "Core 0 of the image above: `00 00 14 00 00 40 00 00 00 20 00 00 00 80 02 00 00`."
+abbrev pub exampleListing : List ℕ
+exampleListing =
+    0x00 ∷ 0x00 ∷ 0x14 ∷ 0x00 ∷ 0x00 ∷ 0x40 ∷ 0x00 ∷ 0x00 ∷ 0x00 ∷ 0x20
+    ∷ 0x00 ∷ 0x00 ∷ 0x00 ∷ 0x80 ∷ 0x02 ∷ 0x00 ∷ 0x00 ∷ []
 
 -- "it prints exactly:"
 --     hyperperiod 10

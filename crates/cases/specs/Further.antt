@@ -6,11 +6,11 @@ use mathlib.Core.List.{List, [], _∷_, _++_}
 use lib.ListN.{replicate, take}
 use Rattle.outcomes.specs.Outcome.{gives, refuses}
 use Rattle.copies.specs.Plans.{listedPlan, fullPlan}
-use Rattle.cases.specs.Example.{example, periods1000and1001}
+use Rattle.cases.specs.Example.{example, exampleListing, periods1000and1001}
 use Rattle.cases.specs.Images.{headOf, head, task, label, to, chain, image, chain5and2, alone, labels, lastByte}
-use Rattle.cases.specs.Images.{twoTasks, oneChain, widest, crossed, shared, back}
+use Rattle.cases.specs.Images.{twoTasks, oneChain, widest, crossed, shared, back, unread}
 use Rattle.cases.specs.Texts.{crossedBytes, sharedBytes, backBytes}
-use Rattle.cases.specs.Texts.{crossedText, sharedText, backText, refusedText, exampleListing, crossedListing}
+use Rattle.cases.specs.Texts.{crossedText, sharedText, backText, refusedText, crossedListing}
 use Rattle.cases.specs.Texts.{sharedListing0, sharedListing1, sharedListing2, counted}
 use Rattle.cases.specs.Kinds.{Case, made, accepted, refused, points, listing, listed, lent, ages, printed, writes}
 use Rattle.cases.specs.Kinds.{serves, pair, aged}
@@ -24,7 +24,7 @@ further =
     ∷ made shared sharedBytes
     ∷ made back backBytes
     -- "Chain 5, 2: paths 2, worst 11, best 10."
-    ∷ ages chain5and2 0 (aged 2 1 11 10 1)
+    ∷ ages chain5and2 0 (gives (aged 2 1 11 10 1))
     -- "In 16 bytes: refused 11."; in 17 it is not
     ∷ listing example 0 16 (refuses 11 0)
     ∷ listed example 0 17 (gives 17)
@@ -93,7 +93,7 @@ further =
     ∷ ages (lastByte 0x21) 9 (refuses 9 127)
     ∷ printed (lastByte 0x21) refusedText
     -- "Inside a frame come the writes by rising label, then the reads by rising label and, within a label, rising
-    -- task."
+    -- task." "The two may be the same core; the copies are still listed."
     ∷ printed crossed crossedText
     ∷ listing crossed 0 16 (gives crossedListing)
     -- "a label has two readers with different periods"; "a core without frames has its `core` line alone"
@@ -108,8 +108,8 @@ further =
     ∷ lent example 2 (counted ++ counted) (counted ++ counted)
     ∷ lent (lastByte 0x21) 0 (counted ++ counted) (counted ++ counted)
     -- "A task may stand in a chain more than once."; "chain length 2 to 8"
-    ∷ ages back 0 (aged 2 4 10 8 2)
-    ∷ ages back 1 (aged 2 19 24 23 1)
+    ∷ ages back 0 (gives (aged 2 4 10 8 2))
+    ∷ ages back 1 (gives (aged 2 19 24 23 1))
     ∷ printed back backText
     -- the points of both directions, periods 2 and 3; "The ceiling decides": Q(1) is 4 and not 2
     ∷ points back 0 1 1 (pair 2 3)
@@ -123,4 +123,9 @@ further =
     ∷ serves fullPlan back 1 0 12 (0 ∷ 2 ∷ 4 ∷ 6 ∷ 8 ∷ 10 ∷ [])
     ∷ serves fullPlan back 0 0 12 []
     ∷ writes fullPlan back 2 12 []
+    -- "A label may have no reader.": the listed copies write label 1 and never label 0; full copying writes it too
+    ∷ accepted unread
+    ∷ writes listedPlan unread 0 20 []
+    ∷ writes listedPlan unread 1 20 (0 ∷ 4 ∷ 10 ∷ 14 ∷ [])
+    ∷ writes fullPlan unread 0 10 (0 ∷ 2 ∷ 4 ∷ 6 ∷ 8 ∷ [])
     ∷ []

@@ -82,3 +82,7 @@ abbrev pub back : List ℕ
 back = image
     (head 1 2 2 2 ∷ task 0 2 ∷ task 0 3 ∷ label 0 (to 1) ∷ label 1 (to 0)
     ∷ chain (0 ∷ 1 ∷ 0 ∷ []) ∷ chain (0 ∷ 1 ∷ 0 ∷ 1 ∷ 0 ∷ 1 ∷ 0 ∷ 1 ∷ []) ∷ [])
+
+-- two tasks, and two labels from task 0: label 0 to nobody, label 1 to task 1
+abbrev pub unread : List ℕ
+unread = twoTasks 2 0 (label 0 0 ∷ label 0 (to 1) ∷ [])

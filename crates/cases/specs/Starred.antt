@@ -1,54 +1,26 @@
 -- The starred cases of document 01, Numbers to test against: one table. "A star marks one case of the proved set."
 -- Assumes nothing.
 use Prim.Native.Nat.{ℕ}
-use mathlib.Core.Path.{_≡_}
 use mathlib.Core.List.{List, [], _∷_, map}
 use Rattle.times.specs.Releases.{every}
-use Rattle.times.specs.Points.{publishing, reading}
-use Rattle.outcomes.specs.Outcome.{gives, refuses}
-use Rattle.table.specs.Shown.{answerOf}
-use Rattle.ages.specs.Ages.{Chain, endOf, agesOf}
-use Rattle.questions.specs.Questions.{listing}
-use Rattle.printing.specs.FirstLine as firstLine
-use Rattle.cases.specs.Example.{example, periods999and1001, periods1000and1001}
-
--- what a case says
-pub data Case : Type 0 where
-  points : (Tw Tr n P Q : ℕ) → Case
-  hyperperiod : (image : List ℕ) (H : ℕ) → Case
-  refused : (image : List ℕ) (number place : ℕ) → Case
-  end : (chain : Chain) (t E : ℕ) → Case
-  answer : (chain : Chain) (paths long worst best jitter : ℕ) → Case
-  listed : (image : List ℕ) (core room : ℕ) (bytes : List ℕ) → Case
+use Rattle.outcomes.specs.Outcome.{gives}
+use Rattle.ages.specs.Ages.{Chain}
+use Rattle.cases.specs.Example.{example, exampleListing, periods999and1001, periods1000and1001}
+use Rattle.cases.specs.Kinds.{Case, pointsBy, hyperperiod, refused, end, answer, listing, aged}
 
 -- a chain of the periods T1, T2 and so on
 abbrev pub chain : ℕ → List ℕ → Chain
 chain T1 others = record { first = every T1; others = map every others }
 
--- that it is so, by the definitions
-unfoldable pub Holds : Case → Type 0
-Holds (points Tw Tr n P Q) = (publishing (every Tw) (every Tr) n ≡ P) × (reading (every Tw) (every Tr) n ≡ Q)
-Holds (hyperperiod image H) = firstLine.hyperperiod image ≡ gives H
-Holds (refused image number place) = answerOf image ≡ refuses number place
-Holds (end tasks t E) = endOf tasks t ≡ E
-Holds (answer tasks paths long worst best jitter) =
-    agesOf tasks ≡ record { paths = paths; longest = long; worst = worst; best = best; jitter = jitter }
-Holds (listed image core room bytes) = listing image core room ≡ gives bytes
-
--- all of a list of cases
-unfoldable pub AllHold : List Case → Type 0
-AllHold [] = Unit {0}
-AllHold (case ∷ cases) = Holds case × AllHold cases
-
 -- thirteen stars, thirteen cases
 abbrev pub starred : List Case
 starred =
     -- "Tw 2, Tr 5, n 1: P 4, Q 5." "n 2: 10, 10."
-    points 2 5 1 4 5
-    ∷ points 2 5 2 10 10
+    pointsBy 2 5 1 4 5
+    ∷ pointsBy 2 5 2 10 10
     -- "Tw 5, Tr 2, n 1: P 5, Q 6." "Tw 3, Tr 3, n 4: 12, 12."
-    ∷ points 5 2 1 5 6
-    ∷ points 3 3 4 12 12
+    ∷ pointsBy 5 2 1 5 6
+    ∷ pointsBy 3 3 4 12 12
     -- "Periods 999 and 1001: H 999,999." "1000 and 1001: refused 10."
     ∷ hyperperiod periods999and1001 999999
     ∷ refused periods1000and1001 10 0
@@ -56,13 +28,11 @@ starred =
     ∷ end (chain 3 (7 ∷ 3 ∷ [])) 21 30
     ∷ end (chain 3 (7 ∷ 3 ∷ [])) 24 36
     ∷ end (chain 3 (7 ∷ 3 ∷ [])) 36 51
-    ∷ answer (chain 3 (7 ∷ 3 ∷ [])) 3 9 21 18 3
+    ∷ answer (chain 3 (7 ∷ 3 ∷ [])) (aged 3 9 21 18 3)
     -- "Chain 5, 10, 20: paths 1, long 10, worst 35, best 35, jitter 0."
-    ∷ answer (chain 5 (10 ∷ 20 ∷ [])) 1 10 35 35 0
+    ∷ answer (chain 5 (10 ∷ 20 ∷ [])) (aged 1 10 35 35 0)
     -- "Core 0 of the image above: `00 00 14 00 00 40 00 00 00 20 00 00 00 80 02 00 00`."
-    ∷ listed example 0 17
-    (0x00 ∷ 0x00 ∷ 0x14 ∷ 0x00 ∷ 0x00 ∷ 0x40 ∷ 0x00 ∷ 0x00 ∷ 0x00
-    ∷ 0x20 ∷ 0x00 ∷ 0x00 ∷ 0x00 ∷ 0x80 ∷ 0x02 ∷ 0x00 ∷ 0x00 ∷ [])
+    ∷ listing example 0 17 (gives exampleListing)
     -- "Empty image: refused 1, place 0."
     ∷ refused [] 1 0
     ∷ []

@@ -101,12 +101,6 @@ abbrev pub refusedText : List ℕ
 refusedText =
     114 ∷ 101 ∷ 102 ∷ 117 ∷ 115 ∷ 101 ∷ 100 ∷ 32 ∷ 57 ∷ 32 ∷ 49 ∷ 50 ∷ 55 ∷ 10 ∷ []
 
--- "Core 0 of the image above: `00 00 14 00 00 40 00 00 00 20 00 00 00 80 02 00 00`."
-abbrev pub exampleListing : List ℕ
-exampleListing =
-    0x00 ∷ 0x00 ∷ 0x14 ∷ 0x00 ∷ 0x00 ∷ 0x40 ∷ 0x00 ∷ 0x00 ∷ 0x00 ∷ 0x20
-    ∷ 0x00 ∷ 0x00 ∷ 0x00 ∷ 0x80 ∷ 0x02 ∷ 0x00 ∷ 0x00 ∷ []
-
 -- the listing of core 0 of `crossed`: one frame of four copies
 abbrev pub crossedListing : List ℕ
 crossedListing =

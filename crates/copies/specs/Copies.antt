@@ -26,13 +26,14 @@ pub data Copy : Type 0 where
   write : (label writer : ℕ) → Copy
   read : (label reader : ℕ) → Copy
 
--- the writes of a core at t, by rising label: "The write belongs to the writer's core, the read to the reader's."
+-- "The write belongs to the writer's core, the read to the reader's. The two may be the same core; the copies are still
+-- listed.": the writes of a core at t, by rising label
 unfoldable pub writesAt : Table → ℕ → ℕ → List Copy
 writesAt table core t =
     eachBelow (table .labels)
     (λ l. onlyIf (eqb (coreOf table (writerOf table l)) core && written table l t) (write l (writerOf table l)))
 
--- the reads of a core at t, by rising label and, within a label, rising task
+-- and the reads of a core at t, by rising label and, within a label, rising task
 unfoldable pub readsAt : Table → ℕ → ℕ → List Copy
 readsAt table core t =
     eachBelow (table .labels)

@@ -1,9 +1,11 @@
 -- Each of a list has a property. Assumes nothing.
 use Prim.Native.Nat.{ℕ, zero, suc, _<_}
+use mathlib.Core.Bool.{Bool, true, false}
 use mathlib.Core.List.{List, [], _∷_, _++_, map}
 use native.Mathlib.Nat.{le-of-suc-le-suc}
 use native.Mathlib.Omega.{arith}
 use lib.ListN.{length, getD, replicate}
+use Rattle.lists.specs.Lists.{eachBelow, onlyIf}
 
 abbrev pub All : {A : Type 0} → (A → Type 0) → List A → Type 0
 All P [] = Unit {0}
@@ -33,6 +35,18 @@ module _ {A : Type 0} (P : A → Type 0) where
   pub all-map : {B : Type 0} (f : B → A) (xs : List B) → All (λ x. P (f x)) xs → All P (map f xs)
   all-map f [] all = tt
   all-map f (x ∷ xs) all = (all .0, all-map f xs (all .1))
+
+  -- all that each number below a bound has to add
+  pub all-each-below : (n : ℕ) (adds : ℕ → List A) → ((k : ℕ) → k < n → All P (adds k)) → All P (eachBelow n adds)
+  unfolding eachBelow
+  all-each-below zero adds each = tt
+  all-each-below (suc n) adds each =
+      all-append (eachBelow n adds) (adds n) (all-each-below n adds (λ k below. each k (omega arith)))
+      (each n (omega arith))
+
+  pub all-only-if : (test : Bool) (x : A) → P x → All P (onlyIf test x)
+  all-only-if true x of-x = (of-x, tt)
+  all-only-if false x of-x = tt
 
 -- each has what follows from the property
 pub all-also : {A : Type 0} (P Q : A → Type 0) → ((x : A) → P x → Q x) → (xs : List A) → All P xs → All Q xs

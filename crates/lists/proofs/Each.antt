@@ -1,15 +1,16 @@
 -- What each of a list, or each number below a bound, has to add: lists that are put together, and one entry each.
 -- Assumes nothing.
-use Prim.Native.Nat.{ℕ, zero, suc, _<_}
+use Prim.Native.Nat.{ℕ, zero, suc, _*_, _<_, _≤_}
 use mathlib.Core.Path.{_≡_, refl, sym, ap, _∙_}
 use mathlib.Core.Logic.{by-cases}
+use mathlib.Core.Bool.{Bool, true, false}
 use mathlib.Core.List.{List, [], _∷_, _++_, append-assoc}
 use native.Mathlib.Decide.{decLt}
 use native.Mathlib.Numerals.{add-one}
 use native.Mathlib.Omega.{arith}
 use lib.ListN.{length, getD, length-append, List·getD-append}
 use lib.Seq.{ext-getD, getD-at}
-use Rattle.lists.specs.Lists.{eachBelow, eachOf}
+use Rattle.lists.specs.Lists.{eachBelow, eachOf, onlyIf}
 
 pub each-of-append : {A B : Type 0} (adds : A → List B) (xs ys : List A)
     → eachOf (xs ++ ys) adds ≡ eachOf xs adds ++ eachOf ys adds
@@ -17,6 +18,19 @@ unfolding eachOf
 each-of-append adds [] ys = refl
 each-of-append adds (x ∷ xs) ys =
     ap (λ l. adds x ++ l) (each-of-append adds xs ys) ∙ sym (append-assoc (adds x) (eachOf xs adds) (eachOf ys adds))
+
+-- how much numbers below n add, each at most so much
+pub length-each-below : {A : Type 0} (most n : ℕ) (adds : ℕ → List A)
+    → ((k : ℕ) → k < n → length (adds k) ≤ most) → length (eachBelow n adds) ≤ most * n
+unfolding eachBelow
+length-each-below most zero adds each = omega arith
+length-each-below most (suc n) adds each =
+    let fewer = length-each-below most n adds (λ k below. each k (omega arith)) in
+    omega (arith, length-append (eachBelow n adds) (adds n), each n (omega arith))
+
+pub length-only-if : {A : Type 0} (test : Bool) (x : A) → length (onlyIf test x) ≤ 1
+length-only-if true x = omega arith
+length-only-if false x = omega arith
 
 module _ {A : Type 0} (f : ℕ → A) where
   -- one entry for each number below n: so many

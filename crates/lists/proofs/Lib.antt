@@ -4,5 +4,6 @@ pub mod Bools
 pub mod Each
 pub mod Last
 pub mod Lists
+pub mod Over
 pub mod Padded
 pub mod SomeOf

@@ -38,3 +38,9 @@ onlyIf test x = cond test (x ∷ []) []
 -- the entries, and then `filler` up to `size` entries
 unfoldable pub padded : {A : Type 0} → ℕ → A → List A → List A
 padded size filler entries = entries ++ replicate (size - length entries) filler
+
+-- the entries over the first ones of a list, as far as it goes; those after them stay
+unfoldable pub over : {A : Type 0} → List A → List A → List A
+over [] held = held
+over (x ∷ entries) [] = []
+over (x ∷ entries) (first ∷ held) = x ∷ over entries held

@@ -8,9 +8,8 @@ use Rattle.lists.specs.Lists.{someBelow, eachBelow, eachOf}
 use Rattle.outcomes.specs.Outcome.{Outcome, gives, refuses, askedOf}
 use Rattle.table.specs.Table.{hyperperiodOf}
 use Rattle.table.specs.Image.{Whole, readImage}
-use Rattle.table.specs.declared.Table.{Table}
-use Rattle.copies.specs.Copies.{Copy, write, read, Frame, framesOf}
-use Rattle.copies.specs.Listing.{listingOf}
+use Rattle.copies.specs.Copies.{Copy, write, read, Frame}
+use Rattle.copies.specs.Listing.{Listing, coreListing, listingOf}
 use Rattle.ages.specs.Ages.{Ages, agesOfChain}
 use Rattle.printing.specs.Words.{hyperperiodWord, coreWord, chainWord, pathsWord, longWord, worstWord, bestWord}
 use Rattle.printing.specs.Words.{jitterWord, refusedWord, space, letterW, letterR, colon, newline, decimal}
@@ -26,8 +25,8 @@ unfoldable pub frameText : Frame → List ℕ
 frameText frame = decimal (frame .start) ++ eachOf (frame .copies) copyText ++ newline ∷ []
 
 -- "a core without frames has its `core` line alone"
-unfoldable pub coreText : Table → ℕ → List ℕ
-coreText table core = named coreWord core ++ newline ∷ eachOf (framesOf table core) frameText
+unfoldable pub coreText : Listing → List ℕ
+coreText listing = named coreWord (listing .core) ++ newline ∷ eachOf (listing .frames) frameText
 
 -- "A chain's line gives its number, the number of paths, the longest length, the worst and best age and the jitter."
 unfoldable pub chainText : ℕ → Ages → List ℕ
@@ -44,7 +43,7 @@ chainText chain ages =
 unfoldable pub wholeText : Whole → List ℕ
 wholeText whole =
     named hyperperiodWord (hyperperiodOf (whole .table))
-    ++ newline ∷ eachBelow (whole .table .cores) (coreText (whole .table))
+    ++ newline ∷ eachBelow (whole .table .cores) (λ core. coreText (coreListing (whole .table) core))
     ++ eachBelow (whole .table .chains)
     (λ k. chainText k (agesOfChain (whole .table) (whole .rows) k))
 

@@ -34,7 +34,7 @@ fn round_of(table: Table) -> HyperperiodAnswer
 pub fn hyperperiod(image: &[u8]) -> HyperperiodAnswer
     ensures { λ r. ⌜ saidOfHyperperiod r ≡ hyperperiod (now (image .entry)) ⌝ }
 {
-    let read = table::read_table(image);
+    let read = images::read_table(image);
     let answer = read.answer;
     let Answer::Refused { refusal, place } = answer else {
         let table = read.table;

@@ -6,11 +6,12 @@ use mathlib.Core.Path.{_≡_, sym, ap, _∙_}
 use Rattle.outcomes.specs.Outcome.{Outcome, refuses, askedOf}
 use Rattle.table.specs.Refusals.{numberOf, saidOfImage}
 use Rattle.table.specs.Image.{Whole, readImage}
-use Rattle.table.specs.Shown.{answerOf, nothing, acceptedOr, shownOf, TableShown}
+use Rattle.table.specs.Shown.{answerOf, nothing, acceptedOr, shownOf}
+use Rattle.images.specs.TableShown.{TableShown}
 use Rattle.table.specs.declared.Answer.the-variants.{Accepted, Refused}
 use Rattle.table.specs.declared.Refusal.{Refusal}
 use Rattle.table.specs.declared.Table.{Table}
-use Rattle.table.specs.declared.TableRead.{TableRead}
+use Rattle.images.specs.declared.TableRead.{TableRead}
 use Rattle.outcomes.proofs.Outcomes.{refusal-handed-on, something-given}
 
 module _ (image : List ℕ) (read : TableRead) (shown : TableShown image read) where

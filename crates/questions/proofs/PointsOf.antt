@@ -10,7 +10,7 @@ use Rattle.times.specs.Points.{publishing, reading}
 use Rattle.outcomes.specs.Outcome.{Outcome, gives, refuses}
 use Rattle.table.specs.Table.{timingOf, joins}
 use Rattle.table.specs.declared.Table.{Table}
-use Rattle.questions.specs.Questions.{Points, unlessRefused, pointsOf}
+use Rattle.questions.specs.Questions.{Points, refusedUnless, pointsOf}
 
 module _ (table : Table) (writer reader n : ℕ) where
   -- "asked .. task not in the table, or n above 1,000,000" does not hold
@@ -29,7 +29,7 @@ module _ (table : Table) (writer reader n : ℕ) where
   }
 
   by : Bool → Bool → Outcome Points
-  by known linked = unlessRefused known 12 (unlessRefused linked 13 (gives asked))
+  by known linked = refusedUnless 12 known (refusedUnless 13 linked (gives asked))
 
   pub not-askable : Askable ≡ false → pointsOf table writer reader n ≡ refuses 12 0
   unfolding pointsOf by

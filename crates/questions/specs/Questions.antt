@@ -14,9 +14,9 @@ use Rattle.table.specs.declared.Table.{Table}
 use Rattle.copies.specs.Listing.{listingOf}
 use Rattle.ages.specs.Ages.{Ages, agesOfChain}
 
--- a condition that has to hold before anything else is said
-abbrev pub unlessRefused : {A : Type 0} → Bool → ℕ → Outcome A → Outcome A
-unlessRefused right number rest = cond right rest (refuses number 0)
+-- a row of the numbers that say no: refused by its number, at place 0, unless this holds; then what follows
+abbrev pub refusedUnless : {A : Type 0} → (number : ℕ) → (right : Bool) → Outcome A → Outcome A
+refusedUnless number right rest = cond right rest (refuses number 0)
 
 -- the points of a pair: P(n) and Q(n)
 pub record Points : Type 0 where
@@ -27,8 +27,8 @@ pub record Points : Type 0 where
 -- reader"
 unfoldable pub pointsOf : (table : Table) (writer reader n : ℕ) → Outcome Points
 pointsOf table writer reader n =
-    unlessRefused (ltb writer (table .tasks) && ltb reader (table .tasks) && leb n 1000000) 12
-    (unlessRefused (joins table writer reader) 13
+    refusedUnless 12 (ltb writer (table .tasks) && ltb reader (table .tasks) && leb n 1000000)
+    (refusedUnless 13 (joins table writer reader)
     (gives (record {
       publishing = publishing (timingOf table writer) (timingOf table reader) n;
       reading = reading (timingOf table writer) (timingOf table reader) n;
@@ -43,8 +43,8 @@ unfoldable pub listing : (image : List ℕ) (core room : ℕ) → Outcome (List 
 listing image core room =
     askedOf (readImage image)
     (λ whole.
-    unlessRefused (ltb core (whole .table .cores)) 12
-    (unlessRefused (leb (length (listingOf (whole .table) core)) room) 11
+    refusedUnless 12 (ltb core (whole .table .cores))
+    (refusedUnless 11 (leb (length (listingOf (whole .table) core)) room)
     (gives (listingOf (whole .table) core))))
 
 -- "On success a listing fills the first bytes of the buffer, .. and the bytes after them keep their values"; after a
@@ -62,5 +62,5 @@ unfoldable pub ages : (image : List ℕ) (chain : ℕ) → Outcome Ages
 ages image chain =
     askedOf (readImage image)
     (λ whole.
-    unlessRefused (ltb chain (whole .table .chains)) 12
+    refusedUnless 12 (ltb chain (whole .table .chains))
     (gives (agesOfChain (whole .table) (whole .rows) chain)))

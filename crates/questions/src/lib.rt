@@ -42,7 +42,7 @@ pub enum AgesAnswer {
 pub fn points(image: &[u8], writer: u64, reader: u64, n: u64) -> PointsAnswer
     ensures { λ r. ⌜ saidOfPoints r ≡ points (now (image .entry)) writer reader n ⌝ }
 {
-    let read = table::read_table(image);
+    let read = images::read_table(image);
     let answer = read.answer;
     let Answer::Refused { refusal, place } = answer else {
         let table = read.table;

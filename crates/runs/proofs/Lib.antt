@@ -2,10 +2,12 @@
 pub mod Between
 pub mod Controls
 pub mod Copied
+pub mod CopiesSuffice
+pub mod CoresAside
+pub mod Errors
+pub mod FrameCopies
 pub mod Held
-pub mod Listed
-pub mod Listings
-pub mod ListingsPlan
 pub mod NoJobCanTell
 pub mod Pair
+pub mod SamePlan
 pub mod SameReads

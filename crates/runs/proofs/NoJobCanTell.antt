@@ -8,11 +8,11 @@ use Rattle.outcomes.specs.Outcome.{gives}
 use Rattle.table.specs.Image.{Whole, readImage}
 use Rattle.copies.specs.Plans.{listedPlan, fullPlan}
 use Rattle.runs.specs.Runs.{Turns, valuesRead}
-use Rattle.runs.specs.Listings.{listingsPlan}
+use Rattle.runs.specs.FramePlan.{listingsPlan}
 use Rattle.runs.proofs.SameReads.{same-values-read}
 use Rattle.table.proofs.Accepted.{accepted-sound}
-use Rattle.runs.proofs.Listed.{listed-copies-suffice}
-use Rattle.runs.proofs.ListingsPlan.{same-plan}
+use Rattle.runs.proofs.CopiesSuffice.{listed-copies-suffice}
+use Rattle.runs.proofs.SamePlan.{same-plan}
 
 -- values of any type, any initial values, any turns, any number of ticks
 pub no-job-can-tell : (image : List ℕ) (whole : Whole) → readImage image ≡ gives whole

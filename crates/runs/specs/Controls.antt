@@ -6,17 +6,25 @@ use Rattle.table.specs.Image.{Task, Label, tableOf}
 use Rattle.table.specs.declared.Table.{Table}
 use Rattle.runs.specs.Runs.{ValueRead, readsIncoming, writesOutgoing, Turns}
 
-abbrev task : ℕ → Task
-task T = record { core = 0; period = T }
+abbrev task : (core T : ℕ) → Task
+task core T = record { core = core; period = T }
 
 abbrev label : ℕ → ℕ → Label
 label writer readers = record { writer = writer; readers = readers }
 
--- task 0 of period Tw, task 1 of period Tr; label 0 from 0 to 1, label 1 back
-unfoldable pub pair : (Tw Tr : ℕ) → Table
-pair Tw Tr =
-    tableOf (record { cores = 1; tasks = 2; labels = 2; chains = 0 }) (task Tw ∷ task Tr ∷ [])
+-- task 0 of period Tw on core 0, task 1 of period Tr on the last of so many cores; label 0 from 0 to 1, label 1 back
+unfoldable pub pairOn : (last Tw Tr : ℕ) → Table
+pairOn last Tw Tr =
+    tableOf (record { cores = suc last; tasks = 2; labels = 2; chains = 0 }) (task 0 Tw ∷ task last Tr ∷ [])
     (label 0 (2 ^ 30) ∷ label 1 (2 ^ 31) ∷ []) []
+
+-- both on one core
+abbrev pub pair : (Tw Tr : ℕ) → Table
+pair Tw Tr = pairOn 0 Tw Tr
+
+-- each on a core of its own
+abbrev pub apart : (Tw Tr : ℕ) → Table
+apart Tw Tr = pairOn 1 Tw Tr
 
 -- the image of this table for the periods 2 and 5
 abbrev pub pairImage : List ℕ
@@ -24,7 +32,13 @@ pairImage =
     0x11 ∷ 0x08 ∷ 0x10 ∷ 0x00 ∷ 0x00 ∷ 0x01 ∷ 0x00 ∷ 0x00 ∷ 0x05 ∷ 0x02
     ∷ 0x00 ∷ 0x00 ∷ 0x00 ∷ 0x00 ∷ 0x60 ∷ 0x00 ∷ 0x00 ∷ 0x00 ∷ 0x00 ∷ []
 
--- and for the periods 5 and 2, and 3 and 3
+-- the same on two cores
+abbrev pub apartImage : List ℕ
+apartImage =
+    0x12 ∷ 0x08 ∷ 0x10 ∷ 0x00 ∷ 0x00 ∷ 0x01 ∷ 0x10 ∷ 0x00 ∷ 0x05 ∷ 0x02
+    ∷ 0x00 ∷ 0x00 ∷ 0x00 ∷ 0x00 ∷ 0x60 ∷ 0x00 ∷ 0x00 ∷ 0x00 ∷ 0x00 ∷ []
+
+-- and on one core for the periods 5 and 2, and 3 and 3
 abbrev pub slowWriterImage : List ℕ
 slowWriterImage =
     0x11 ∷ 0x08 ∷ 0x10 ∷ 0x00 ∷ 0x00 ∷ 0x02 ∷ 0x80 ∷ 0x00 ∷ 0x02 ∷ 0x02
@@ -38,7 +52,7 @@ equalImage =
 -- task 0 of period 2, the tasks 1 and 2 of the periods 4 and 6; label 0 from 0 to both
 unfoldable pub twoReaders : Table
 twoReaders =
-    tableOf (record { cores = 1; tasks = 3; labels = 1; chains = 0 }) (task 2 ∷ task 4 ∷ task 6 ∷ [])
+    tableOf (record { cores = 1; tasks = 3; labels = 1; chains = 0 }) (task 0 2 ∷ task 0 4 ∷ task 0 6 ∷ [])
     (label 0 (2 ^ 30 + 2 ^ 29) ∷ []) []
 
 -- its image

@@ -1,6 +1,7 @@
 -- Definitions of this crate.
 pub mod Controls
 pub mod Errors
-pub mod Listings
+pub mod FramePlan
+pub mod Moved
 pub mod Runs
 pub mod Sufficing

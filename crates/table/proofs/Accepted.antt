@@ -9,13 +9,13 @@ use lib.ListN.{length}
 use Rattle.lists.proofs.All.{All}
 use Rattle.outcomes.specs.Outcome.{Outcome, gives, refuses, askedOf}
 use Rattle.outcomes.proofs.Outcomes.{same-given, gives-no-refusal}
-use Rattle.table.specs.Reading.{Taken, inRow, check}
+use Rattle.taking.specs.Reading.{Taken, inRow, check}
 use Rattle.table.specs.Table.{hyperperiodOf}
 use Rattle.table.specs.Image.{Head, Task, Label, Whole, headFields, tableOf, rowsOf, fill, allFields, wholeFields}
 use Rattle.table.specs.Image.{readImage}
 use Rattle.table.specs.Rules.{ChainMeets}
 use Rattle.table.proofs.ChainRules.{chain-checks}
-use Rattle.table.proofs.Checks.{Checks, checks-nothing, done-checks, then-checks, check-checks, row-checks}
+use Rattle.taking.proofs.Checks.{Checks, checks-nothing, done-checks, then-checks, check-checks, row-checks}
 use Rattle.table.proofs.FieldRules.{Counts, head-counts, TaskRules, task-rules, LabelRules, label-rules}
 use Rattle.table.proofs.Sound.{Sound, table-sound}
 

@@ -11,13 +11,13 @@ use lib.ListN.{length, getD, length-append}
 use borrow.Author.Tests.{ltb-true}
 use Rattle.lists.proofs.Bools.{and-parts}
 use Rattle.lists.proofs.All.{All, all-append, all-within}
-use Rattle.table.specs.Reading.{Taker, done, _then_, field, inRow}
+use Rattle.taking.specs.Reading.{Taker, done, _then_, field, inRow}
 use Rattle.table.specs.Table.{joins}
 use Rattle.table.specs.Image.{between, stepHolds, chainTask, chainFields}
 use Rattle.table.specs.Rules.{ChainMeets}
 use Rattle.table.specs.declared.Table.{Table}
-use Rattle.table.proofs.Checks.{Checks, done-checks, then-checks, field-checks}
-use Rattle.table.proofs.Steps.{between-bounds}
+use Rattle.taking.proofs.Checks.{Checks, done-checks, then-checks, field-checks}
+use Rattle.table.proofs.Ranges.{between-bounds}
 
 -- a property of those before it that each next one keeps is one of the whole row
 pub row-keeps : {A : Type 0} (P : List A → Type 0) (one : List A → Taker A) → P []
@@ -36,6 +36,14 @@ row-keeps P one none each (suc n) =
       length-append before (next ∷ []) ∙ add-one (length before) ∙ ap suc (so-far .0),
       of-next,
     )))
+
+-- the step from the last task of a list
+pub step-from-last : (table : Table) (before : List ℕ) (x next : ℕ)
+    → stepHolds table (before ++ x ∷ []) next ≡ joins table x next
+unfolding stepHolds
+step-from-last table [] x next = refl
+step-from-last table (a ∷ []) x next = refl
+step-from-last table (a ∷ b ∷ before) x next = step-from-last table (b ∷ before) x next
 
 module _ (table : Table) where
   -- each task of the list and the next one have a label

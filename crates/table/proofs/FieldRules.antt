@@ -7,12 +7,12 @@ use lib.Dec.{ltb, eqb}
 use borrow.Author.Tests.{ltb-true, not-true, eqb-false}
 use Rattle.lists.proofs.Bools.{and-parts}
 use Rattle.lists.proofs.Lists.{someBelow-none-passes}
-use Rattle.table.specs.Reading.{field}
+use Rattle.taking.specs.Reading.{field}
 use Rattle.table.specs.Table.{marks}
 use Rattle.table.specs.Image.{Head, Task, Label, between, headFields, taskFields, rightReaders, labelFields}
 use Rattle.table.specs.Rules.{FromTo}
-use Rattle.table.proofs.Checks.{Checks, checks-nothing, done-checks, then-checks, field-checks, field-narrow}
-use Rattle.table.proofs.Steps.{between-bounds}
+use Rattle.taking.proofs.Checks.{Checks, checks-nothing, done-checks, then-checks, field-checks, field-narrow}
+use Rattle.table.proofs.Ranges.{between-bounds}
 
 -- the counts of a head that was taken
 pub record Counts (head : Head) : Type 0 where
@@ -55,7 +55,7 @@ task-rules cores =
 abbrev pub Marked : (tasks : ℕ) → Label → Type 0
 Marked tasks label = (i : ℕ) → marks (label .readers) i ≡ true → (i < tasks) × ¬ (i ≡ label .writer)
 
-right-marked : (tasks writer readers : ℕ) → rightReaders tasks writer readers ≡ true
+pub right-marked : (tasks writer readers : ℕ) → rightReaders tasks writer readers ≡ true
     → Marked tasks (record { writer = writer; readers = readers })
 unfolding rightReaders marks
 right-marked tasks writer readers right i marked =

@@ -1,22 +1,11 @@
--- Laws of the definitions and of the reader, for the functions of this crate and for the crates above.
+-- Laws of the definitions, for the crates above and for the functions here.
 pub mod Accepted
-pub mod ChainRows
 pub mod ChainRules
-pub mod ChainSteps
-pub mod Checks
-pub mod FieldLaws
 pub mod FieldRules
-pub mod Filling
-pub mod LabelSearch
-pub mod Linking
+pub mod FillSays
+pub mod FirstBytes
 pub mod MeetsRules
 pub mod Numbers
-pub mod Readers
+pub mod Ranges
 pub mod Refusals
-pub mod Rows
 pub mod Sound
-pub mod StepSearch
-pub mod Steps
-pub mod Stricter
-pub mod Whole
-pub mod WholeImage

@@ -9,9 +9,6 @@ use Rattle.table.specs.Refusals.{numberOf, saidOfImage}
 use Rattle.table.specs.declared.Refusal.{Refusal}
 use Rattle.table.specs.declared.Refusal.the-variants.{Ends, Version, Count, Core, Period, Writer, Reader, Chain}
 use Rattle.table.specs.declared.Refusal.the-variants.{Fill, Hyperperiod, Room, Asked, Unjoined}
-use Rattle.table.specs.Table.{Rows}
-use Rattle.table.specs.Shown.{answerOf, shownOf}
-use Rattle.table.specs.declared.TableRead.{TableRead}
 use Rattle.table.specs.declared.Answer.{Answer}
 use Rattle.table.specs.declared.Answer.the-variants.{Accepted, Refused}
 
@@ -53,11 +50,3 @@ same-answer Accepted Accepted e = refl
 same-answer Accepted (Refused r p) e = absurd (gives-no-refusal e)
 same-answer (Refused r p) Accepted e = absurd (gives-no-refusal (sym e))
 same-answer (Refused r p) (Refused s q) e = let same = same-refused r s e in cc
-
--- what reading an image shows is determined: the answer, each field of the table and each entry of the rows
-pub image-determined : (image : List ℕ) (a b : TableRead) (rows-a rows-b : Rows)
-    → saidOfImage (a .answer) ≡ answerOf image → a .table ≡ shownOf image .table → rows-a ≡ shownOf image .rows
-    → saidOfImage (b .answer) ≡ answerOf image → b .table ≡ shownOf image .table → rows-b ≡ shownOf image .rows
-    → (a .answer ≡ b .answer) × (a .table ≡ b .table) × (rows-a ≡ rows-b)
-image-determined image a b rows-a rows-b of-a table-a left-a of-b table-b left-b =
-    (same-answer (a .answer) (b .answer) (of-a ∙ sym of-b), table-a ∙ sym table-b, left-a ∙ sym left-b)

@@ -1,16 +1,15 @@
 -- The table image, field by field. Document 01, Table image, and of Numbers that say no the rows 1 to 10 with their
 -- order. `field 4 2 test` takes a field of 4 bits and refuses it by 2 unless its value passes the test. Assumes
 -- nothing.
-use Prim.Native.Nat.{ℕ, _-_, _%_}
+use Prim.Native.Nat.{ℕ, _+_}
 use mathlib.Core.Bool.{Bool, true, not, _&&_, _||_}
 use mathlib.Core.List.{List, [], _∷_, map}
 use lib.Dec.{eqb, leb, ltb}
 use lib.ListN.{length, replicate}
 use Rattle.lists.specs.Lists.{someBelow, padded}
-use Rattle.bits.specs.Bits.{bitCount}
 use Rattle.outcomes.specs.Outcome.{Outcome, gives, askedOf}
 use Rattle.times.specs.Rounds.{inLimit}
-use Rattle.table.specs.Reading.{Taker, done, _then_, field, inRow, check}
+use Rattle.taking.specs.Reading.{Taker, done, _then_, field, inRow, check, zeroBits, nothingFollows}
 use Rattle.table.specs.Table.{Rows, marks, joins, hyperperiodOf}
 use Rattle.table.specs.declared.Table.{Table}
 
@@ -30,6 +29,16 @@ pub record Task : Type 0 where
 pub record Label : Type 0 where
   pub writer : ℕ
   pub readers : ℕ
+
+-- how many bits the head, a task and a label take
+abbrev pub headBits : ℕ
+headBits = 4 + 4 + 6 + 7 + 5
+
+abbrev pub taskBits : ℕ
+taskBits = 3 + 20
+
+abbrev pub labelBits : ℕ
+labelBits = 5 + 32
 
 -- a value from `least` to `most`
 unfoldable pub between : ℕ → ℕ → ℕ → Bool
@@ -52,7 +61,7 @@ taskFields cores =
     field 20 5 (between 1 1000000) then λ period.
     done (record { core = core; period = period })
 
--- a readers field marks only tasks of the table, and not the writer
+-- a readers field marks only tasks of the table, and not the writer; "A label may have no reader."
 unfoldable pub rightReaders : (tasks writer readers : ℕ) → Bool
 rightReaders tasks writer readers =
     not (someBelow 32 (λ i. marks readers i && (not (ltb i tasks) || eqb i writer)))
@@ -102,10 +111,7 @@ chainFields table =
 
 -- 9: "a fill bit is 1, or bytes follow", at the first such bit. "Zero bits fill the last byte; nothing follows."
 unfoldable pub fill : Taker (Unit {0})
-fill image at =
-    (inRow ((8 - at % 8) % 8) (λ before. field 1 9 (λ bit. eqb bit 0)) then λ bits.
-    λ image at. check (leb (bitCount image) at) 9 at image at)
-    image at
+fill = zeroBits 9 then λ zeros. nothingFollows 9
 
 -- an accepted table, with the rows of its chains
 pub record Whole : Type 0 where

@@ -1,12 +1,9 @@
 -- What reading an image shows: the answer, the table and the rows. Document 01, Numbers that say no: a refusal
 -- "carries no other value"; so of a refused image the table and the rows hold nothing but 0. Assumes nothing.
 use Prim.Native.Nat.{ℕ}
-use mathlib.Core.Path.{_≡_}
 use mathlib.Core.List.{List, []}
 use Rattle.outcomes.specs.Outcome.{Outcome, gives, refuses, askedOf}
 use Rattle.table.specs.Image.{Whole, tableOf, rowsOf, readImage}
-use Rattle.table.specs.Refusals.{saidOfImage}
-use Rattle.table.specs.declared.TableRead.{TableRead}
 
 -- accepted, or the refusal's number and place
 unfoldable pub answerOf : List ℕ → Outcome (Unit {0})
@@ -27,8 +24,3 @@ acceptedOr other (refuses number place) = other
 -- the table and the rows that an image shows
 unfoldable pub shownOf : List ℕ → Whole
 shownOf image = acceptedOr nothing (readImage image)
-
--- what a reader of the image answers: the image's answer, and its table
-pub record TableShown (image : List ℕ) (r : TableRead) : Type 0 where
-  pub answer : saidOfImage (r .answer) ≡ answerOf image
-  pub table : r .table ≡ shownOf image .table

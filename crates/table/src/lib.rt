@@ -1,25 +1,10 @@
-// The table and its refusals, as the program holds them, and the reader of an image (document 01: Table image, Numbers
-// that say no). What each stands for is said in specs/.
+// The table and its refusals, as the program holds them (document 01: Table image, Numbers that say no). What each
+// stands for, and what an image says of them, is said in specs/; the code that reads an image stands in the crates above.
 ghost use mathlib.Core.Path.{_≡_};
 ghost use mathlib.Core.Bool.{_&&_};
 ghost use lib.Dec.{eqb};
 ghost use Rattle.table.specs.Table.{marks};
 ghost use Rattle.table.specs.Refusals.{numberOf};
-ghost use Rattle.table.specs.Shown.{shownOf, TableShown};
-
-mod bodies;
-mod chains;
-mod endings;
-mod fields;
-mod heads;
-mod images;
-mod labels;
-mod links;
-mod parts;
-mod searches;
-mod tasks;
-
-use images::read_all;
 
 // Why an image or a question is refused: the thirteen rows of document 01's table. Their numbers: specs/Refusals.antt.
 pub enum Refusal {
@@ -58,14 +43,15 @@ pub struct Table {
     pub length: [u32; 16],
 }
 
-// What reading an image shows: its answer and, beside it, its table; of a refused image, the table with nothing in it.
-pub struct TableRead {
-    pub answer: Answer,
-    pub table: Table,
-}
+// How many bits the head, a task and a label take: headBits, taskBits and labelBits of specs/Image.antt.
+pub const HEAD_BITS: usize = 26;
+
+pub const TASK_BITS: usize = 23;
+
+pub const LABEL_BITS: usize = 37;
 
 // Task i is marked in a readers field. No bit of it stands for a task past 31.
-pub(crate) fn marked(readers: u32, i: u64) -> bool
+pub fn marked(readers: u32, i: u64) -> bool
     ensures { λ b. ⌜ b ≡ marks readers i ⌝ }
 {
     if i < 32 {
@@ -103,25 +89,4 @@ pub fn number_of(refusal: Refusal) -> u32
         Refusal::Asked => 12,
         Refusal::Unjoined => 13,
     }
-}
-
-// Any string of bytes: its table with the answer beside it. Of a refused image the table holds nothing.
-pub fn read_table(image: &[u8]) -> TableRead
-    ensures { λ r. ⌜ TableShown (now (image .entry)) r ⌝ }
-{
-    let mut rows = [[0u32; 8]; 16];
-    read_all(image, &mut rows)
-}
-
-// The task numbers of an image's chains: sixteen rows of eight, by value. Of a refused image they are all 0.
-pub fn read_rows(image: &[u8]) -> [[u32; 8]; 16]
-    ensures { λ r. ⌜ r ≡ shownOf (now (image .entry)) .rows ⌝ }
-{
-    let mut rows = [[0u32; 8]; 16];
-    let read = read_all(image, &mut rows);
-    let answer = read.answer;
-    let Answer::Accepted = answer else {
-        return [[0u32; 8]; 16];
-    };
-    rows
 }

@@ -18,7 +18,7 @@ use Rattle.table.specs.Rules.{MeetsRules}
 use Rattle.table.proofs.MeetsRules.{accepted-meets-rules}
 use Rattle.writing.specs.Written.{headWritten, taskWritten, labelWritten, chainWritten}
 use Rattle.writing.specs.Written.{headOf, tasksOf, labelsOf, chainsOf, imageFields}
-use Rattle.writing.proofs.HeldRead.{bits-in-parts}
+use Rattle.taking.proofs.HeldRead.{bits-in-parts}
 use Rattle.writing.proofs.WrittenOfRead.{accepted-spelt}
 
 one-more : (w v : ℕ) (fields : List Field) → bitsIn (bits w v ∷ fields) ≡ w + bitsIn fields
@@ -30,7 +30,7 @@ none : bitsIn [] ≡ 0
 unfolding bitsOfAll eachOf
 none = refl
 
-head-bits : (head : Head) → bitsIn (headWritten head) ≡ 26
+head-bits : (head : Head) → bitsIn (headWritten 1 head) ≡ 26
 unfolding headWritten
 head-bits head = rw (one-more, one-more, one-more, one-more, one-more, none)
 
@@ -69,10 +69,10 @@ each-bits f g most (suc n) each =
     )
 
 module _ (whole : Whole) (meets : MeetsRules whole) where
-  most-bits : bitsIn (imageFields whole) ≤ 3834
+  most-bits : bitsIn (imageFields 1 whole) ≤ 3834
   unfolding imageFields tasksOf labelsOf chainsOf
   most-bits =
-      let heads = headWritten (headOf (whole .table)) in
+      let heads = headWritten 1 (headOf (whole .table)) in
       let tasks = eachOf (tasksOf (whole .table)) taskWritten in
       let labels = eachOf (labelsOf (whole .table)) labelWritten in
       let chains = eachOf (chainsOf whole) chainWritten in

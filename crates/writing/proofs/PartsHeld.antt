@@ -12,19 +12,18 @@ use Rattle.bits.specs.Bits.{bitCount, bitAt}
 use Rattle.bits.specs.Packing.{Field, bits, bitsOf, bitsOfAll}
 use Rattle.bits.proofs.Held.{Held}
 use Rattle.outcomes.specs.Outcome.{gives}
-use Rattle.table.specs.Reading.{Taken, field, inRow, check}
+use Rattle.taking.specs.Reading.{Taken, field, fillBits, zeroBits, nothingFollows}
 use Rattle.table.specs.Image.{between, headFields, taskFields, rightReaders, labelFields, chainTask, chainFields, fill}
 use Rattle.table.specs.declared.Table.{Table}
-use Rattle.table.proofs.Checks.{check-checks}
-use Rattle.table.proofs.Filling.{fillBits}
+use Rattle.taking.proofs.Checks.{check-checks}
 use Rattle.writing.specs.Written.{headWritten, taskWritten, labelWritten, chainWritten}
-use Rattle.writing.proofs.TakenHeld.{Holds, done-holds, then-holds, field-holds, row-holds, then-both}
+use Rattle.taking.proofs.TakenHeld.{Holds, done-holds, then-holds, field-holds, row-holds, then-both}
 
 -- a field that stands for itself
 abbrev Own : ℕ → ℕ → List Field → Type 0
 Own w v fs = fs ≡ bits w v ∷ []
 
-pub head-holds : Holds (λ head fs. fs ≡ headWritten head) headFields
+pub head-holds : Holds (λ head fs. fs ≡ headWritten 1 head) headFields
 unfolding headFields headWritten
 head-holds =
     then-holds (λ v fs. fs ≡ bits 4 1 ∷ []) _ (field 4 2 _) _
@@ -76,12 +75,11 @@ zero-bits (x ∷ row) = ap (λ l. 0 ∷ l) (zero-bits row)
 
 pub fill-holds : (image : List ℕ) (at : ℕ) (given : Taken (Unit {0})) → at ≤ bitCount image
     → fill image at ≡ gives given → Ends image at
-unfolding fill
+unfolding fill zeroBits nothingFollows
 fill-holds image at given inside e =
     let n : ℕ = fillBits at in
     let one = field 1 9 (λ bit. eqb bit 0) in
-    let both = then-both (inRow n (λ before. one))
-    (λ bits image at. check (leb (bitCount image) at) 9 at image at) image at given e in
+    let both = then-both (zeroBits 9) (λ zeros. nothingFollows 9) image at given e in
     let row = row-holds (λ bit. bits 1 0 ∷ []) (λ before. one)
     (λ before. field-holds _ 1 9 (λ bit. eqb bit 0) (λ v right. ap (λ b. bits 1 b ∷ []) (eqb-true v 0 right)))
     n image at (both .taken) inside (both .one) in

@@ -11,23 +11,23 @@ use lib.Seq.{take-suc}
 use Rattle.lists.proofs.Bools.{and-of-parts}
 use Rattle.lists.proofs.Lists.{someBelow-nothing}
 use Rattle.bits.specs.Packing.{bits}
-use Rattle.table.specs.Reading.{field, inRow}
+use Rattle.taking.specs.Reading.{field, inRow}
 use Rattle.table.specs.Table.{marks}
 use Rattle.table.specs.Image.{Head, Task, Label, between, headFields, taskFields, rightReaders, labelFields}
 use Rattle.table.specs.Image.{stepHolds, chainTask, chainFields}
 use Rattle.table.specs.Rules.{FromTo, ChainMeets}
 use Rattle.table.specs.declared.Table.{Table}
 use Rattle.table.proofs.FieldRules.{Counts, TaskRules, Marked, LabelRules}
-use Rattle.table.proofs.ChainSteps.{step-from-last}
+use Rattle.table.proofs.ChainRules.{step-from-last}
 use Rattle.writing.specs.Written.{headWritten, taskWritten, labelWritten, chainWritten}
-use Rattle.writing.proofs.HeldRead.{Reads, done-reads, then-reads, field-reads, row-reads}
+use Rattle.taking.proofs.HeldRead.{Reads, done-reads, then-reads, field-reads, row-reads}
 
 in-range : {least most v : ℕ} → FromTo least most v → between least most v ≡ true
 unfolding between
 in-range {least} {most} {v} bounds =
     and-of-parts (leb least v) (leb v most) (le-leb least v (bounds .0)) (le-leb v most (bounds .1))
 
-pub head-reads : (head : Head) → Counts head → Reads headFields (headWritten head) head
+pub head-reads : (head : Head) → Counts head → Reads headFields (headWritten 1 head) head
 unfolding headFields headWritten
 head-reads head counts =
     let cores = counts .cores in

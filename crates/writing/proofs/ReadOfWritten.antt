@@ -10,17 +10,16 @@ use Rattle.lists.proofs.Each.{length-one-each, one-each-at}
 use Rattle.bits.specs.Packing.{Field, bitsOfAll}
 use Rattle.bits.proofs.Held.{Held, bitsIn, packed-held}
 use Rattle.outcomes.specs.Outcome.{gives}
-use Rattle.table.specs.Reading.{Taker, inRow, check}
+use Rattle.taking.specs.Reading.{Taker, inRow, check, fillBits}
 use Rattle.table.specs.Table.{reads}
 use Rattle.table.specs.Image.{Whole, taskFields, labelFields, chainFields, tableOf}
-use Rattle.table.specs.Image.{allFields, wholeFields, readImage}
+use Rattle.table.specs.Image.{fill, allFields, wholeFields, readImage}
 use Rattle.table.specs.Rules.{MeetsRules}
 use Rattle.table.specs.declared.Table.{Table}
-use Rattle.table.proofs.Filling.{fillBits}
 use Rattle.writing.specs.Written.{headWritten, taskWritten, labelWritten, chainWritten}
 use Rattle.writing.specs.Written.{headOf, tasksOf, labelsOf, chainsOf, imageFields, imageOf, usedOf}
-use Rattle.writing.proofs.FillRead.{packed-fill}
-use Rattle.writing.proofs.HeldRead.{Reads, row-reads, held-parts, bits-in-parts}
+use Rattle.taking.proofs.FillRead.{packed-fill}
+use Rattle.taking.proofs.HeldRead.{Reads, row-reads, held-parts, bits-in-parts}
 use Rattle.writing.proofs.PartsRead.{head-reads, task-reads, label-reads, chain-reads}
 use Rattle.writing.proofs.UsedEntries.{used-chain, used-hyperperiod}
 
@@ -68,7 +67,7 @@ module _ (whole : Whole) (meets : MeetsRules whole) where
 
   -- the fields of the four parts
   abbrev heads : List Field
-  heads = headWritten (headOf (whole .table))
+  heads = headWritten 1 (headOf (whole .table))
 
   abbrev tasks : List Field
   tasks = eachOf (tasksOf (whole .table)) taskWritten
@@ -79,19 +78,19 @@ module _ (whole : Whole) (meets : MeetsRules whole) where
   abbrev chains : List Field
   chains = eachOf (chainsOf whole) chainWritten
 
-  all-read : allFields (imageOf whole) 0
+  all-read : allFields (imageOf 1 whole) 0
       ≡ gives (record {
         value = usedOf whole;
-        next = bitsIn (imageFields whole) + fillBits (bitsIn (imageFields whole));
+        next = bitsIn (imageFields 1 whole) + fillBits (bitsIn (imageFields 1 whole));
       })
-  unfolding allFields usedOf imageOf imageFields headOf
+  unfolding allFields usedOf imageOf imageFields headOf fill
   all-read =
-      let image = imageOf whole in
+      let image = imageOf 1 whole in
       let at-1 : ℕ = 0 + bitsIn heads in
       let at-2 : ℕ = at-1 + bitsIn tasks in
-      let row : imageFields whole ≡ heads ++ (tasks ++ (labels ++ chains)) =
+      let row : imageFields 1 whole ≡ heads ++ (tasks ++ (labels ++ chains)) =
       append-assoc (heads ++ tasks) labels chains ∙ append-assoc heads tasks (labels ++ chains) in
-      let held = subst (λ fields. Held image 0 (bitsOfAll fields)) row (packed-held (imageFields whole)) in
+      let held = subst (λ fields. Held image 0 (bitsOfAll fields)) row (packed-held (imageFields 1 whole)) in
       let p = held-parts heads (tasks ++ (labels ++ chains)) image 0 held in
       let q = held-parts tasks (labels ++ chains) image at-1 (p .1) in
       let r = held-parts labels chains image at-2 (q .1) in
@@ -104,7 +103,7 @@ module _ (whole : Whole) (meets : MeetsRules whole) where
       let of-tasks = tasks-read .taken image at-1 (q .0) in
       let of-labels = labels-read .taken image at-2 (r .0) in
       let of-chains = chains-read .taken image (at-2 + bitsIn labels) (r .1) in
-      let end : at-2 + bitsIn labels + bitsIn chains ≡ bitsIn (imageFields whole) =
+      let end : at-2 + bitsIn labels + bitsIn chains ≡ bitsIn (imageFields 1 whole) =
       omega (
         arith,
         ap bitsIn row,
@@ -112,9 +111,9 @@ module _ (whole : Whole) (meets : MeetsRules whole) where
         bits-in-parts tasks (labels ++ chains),
         bits-in-parts labels chains,
       ) in
-      rw (of-head, of-tasks, of-labels, of-chains, end, packed-fill (imageFields whole))
+      rw (of-head, of-tasks, of-labels, of-chains, end, packed-fill 9 (imageFields 1 whole))
 
-  pub read-of-written : readImage (imageOf whole) ≡ gives (usedOf whole)
+  pub read-of-written : readImage (imageOf 1 whole) ≡ gives (usedOf whole)
   unfolding readImage wholeFields check usedOf
   read-of-written =
       let same = used-hyperperiod (whole .table) (chainsOf whole) (meets .tasks)

@@ -15,23 +15,23 @@ use Rattle.bits.specs.Packing.{Field, bitsOfAll, bytesFor}
 use Rattle.bits.proofs.ReadBack.{all-written-append}
 use Rattle.bits.proofs.Held.{Held, held-both, bitsIn, packed-only}
 use Rattle.outcomes.specs.Outcome.{Outcome, gives, refuses, askedOf}
-use Rattle.table.specs.Reading.{Taker, Taken, done, _then_, inRow, check}
+use Rattle.taking.specs.Reading.{Taker, Taken, done, _then_, inRow, check}
 use Rattle.table.specs.Table.{hyperperiodOf}
 use Rattle.table.specs.Image.{Whole, headFields, taskFields, labelFields, chainFields}
 use Rattle.table.specs.Image.{tableOf, fill, allFields, wholeFields, readImage}
 use Rattle.outcomes.proofs.Outcomes.{same-given, gives-no-refusal}
 use Rattle.writing.specs.Written.{headWritten, taskWritten, labelWritten, chainWritten}
 use Rattle.writing.specs.Written.{imageFields, imageOf, usedOf}
-use Rattle.writing.proofs.HeldRead.{bits-in-parts}
+use Rattle.taking.proofs.HeldRead.{bits-in-parts}
 use Rattle.writing.proofs.PartsHeld.{head-holds, task-holds, label-holds, chain-holds, Ends, fill-holds}
 use Rattle.writing.proofs.SameParts.{whole, same-head, same-tasks, same-labels, same-chains}
-use Rattle.writing.proofs.TakenHeld.{Holds, row-holds, then-both}
+use Rattle.taking.proofs.TakenHeld.{Holds, row-holds, then-both}
 
 -- an image holds the fields of a table from its first bit on, and then the fill
 pub record Spelt (image : List ℕ) (whole : Whole) : Type 0 where
   pub used : usedOf whole ≡ whole
-  pub held : Held image 0 (bitsOfAll (imageFields whole))
-  pub ends : Ends image (bitsIn (imageFields whole))
+  pub held : Held image 0 (bitsOfAll (imageFields 1 whole))
+  pub ends : Ends image (bitsIn (imageFields 1 whole))
 
 -- fields taken so far, from the first bit on
 record SoFar (image : List ℕ) (at : ℕ) (fields : List Field) : Type 0 where
@@ -60,7 +60,7 @@ then-completes As first rest before of-first of-rest image at given e so-far =
       place = omega (arith, bits-in-parts before (more .fields));
     })
 
-fill-completes : (whole : Whole) (before : List Field) → usedOf whole ≡ whole → before ≡ imageFields whole
+fill-completes : (whole : Whole) (before : List Field) → usedOf whole ≡ whole → before ≡ imageFields 1 whole
     → Completes before (fill then λ filled. done whole)
 fill-completes whole before used all image at given e so-far =
     let both = then-both fill (λ filled. done whole) image at given e in
@@ -76,7 +76,7 @@ fill-completes whole before used all image at given e so-far =
 all-spelt : Completes [] allFields
 unfolding allFields usedOf imageFields
 all-spelt =
-    then-completes (λ head fs. fs ≡ headWritten head) headFields _ [] head-holds (λ head f0 e0.
+    then-completes (λ head fs. fs ≡ headWritten 1 head) headFields _ [] head-holds (λ head f0 e0.
     then-completes _ (inRow (head .tasks) _) _ _
     (row-holds taskWritten (λ before. taskFields (head .cores)) (λ before. task-holds (head .cores)) (head .tasks))
     (λ tasks f1 e1.
@@ -115,11 +115,11 @@ module _ (image : List ℕ) (whole : Whole) (e : readImage image ≡ gives whole
   pub accepted-used : usedOf whole ≡ whole
   accepted-used = accepted-spelt .used
 
-  pub written-of-read : ((k : ℕ) → getD image k 0 < 256) → image ≡ imageOf whole
+  pub written-of-read : ((k : ℕ) → getD image k 0 < 256) → image ≡ imageOf 1 whole
   unfolding imageOf bitCount bytesFor
   written-of-read are-bytes =
       let spelt = accepted-spelt in
-      let fields = imageFields whole in
+      let fields = imageFields 1 whole in
       let end = spelt .ends .end in
       packed-only image fields are-bytes (omega arith) (λ k below.
       by-cases (decLt k (bitsIn fields))

@@ -12,10 +12,10 @@ use Rattle.table.specs.Image.{Head, Task, Label, Whole, tableOf, rowsOf}
 use Rattle.table.specs.Rules.{MeetsRules}
 use Rattle.table.specs.declared.Table.{Table}
 
--- "Head: version 4, cores 4, tasks 6, labels 7, chains 5"; "Version is 1"
-unfoldable pub headWritten : Head → List Field
-headWritten head =
-    bits 4 1 ∷ bits 4 (head .cores) ∷ bits 6 (head .tasks) ∷ bits 7 (head .labels) ∷ bits 5 (head .chains) ∷ []
+-- "Head: version 4, cores 4, tasks 6, labels 7, chains 5"
+unfoldable pub headWritten : (version : ℕ) → Head → List Field
+headWritten version head =
+    bits 4 version ∷ bits 4 (head .cores) ∷ bits 6 (head .tasks) ∷ bits 7 (head .labels) ∷ bits 5 (head .chains) ∷ []
 
 -- "Each task: core 3, period 20"
 unfoldable pub taskWritten : Task → List Field
@@ -48,17 +48,17 @@ labelsOf table =
 unfoldable pub chainsOf : Whole → List (List ℕ)
 chainsOf whole = eachBelow (whole .table .chains) (λ k. chainOf (whole .table) (whole .rows) k ∷ [])
 
--- the fields of the image, in their order
-unfoldable pub imageFields : Whole → List Field
-imageFields whole =
-    headWritten (headOf (whole .table))
+-- the fields of the image of a version, in their order
+unfoldable pub imageFields : (version : ℕ) → Whole → List Field
+imageFields version whole =
+    headWritten version (headOf (whole .table))
     ++ eachOf (tasksOf (whole .table)) taskWritten
     ++ eachOf (labelsOf (whole .table)) labelWritten
     ++ eachOf (chainsOf whole) chainWritten
 
--- the image of a table
-unfoldable pub imageOf : Whole → List ℕ
-imageOf whole = packed (imageFields whole)
+-- the image of a table in a version
+unfoldable pub imageOf : (version : ℕ) → Whole → List ℕ
+imageOf version whole = packed (imageFields version whole)
 
 -- the same table in every used entry, and 0 in all others
 unfoldable pub usedOf : Whole → Whole
@@ -67,8 +67,8 @@ usedOf whole = record {
   rows = rowsOf (chainsOf whole);
 }
 
--- the bytes are the image of this table, which meets the rules and holds 0 past its counts
+-- the bytes are the image of this table, which meets the rules and holds 0 past its counts; "Version is 1"
 pub record ImageOfRight (image : List ℕ) (whole : Whole) : Type 0 where
-  pub written : image ≡ imageOf whole
+  pub written : image ≡ imageOf 1 whole
   pub meets : MeetsRules whole
   pub used : usedOf whole ≡ whole

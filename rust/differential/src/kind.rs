@@ -1,7 +1,5 @@
 //! The kinds of images that are asked about. Each kind has to occur.
 
-use std::ops::ControlFlow;
-
 use crate::question::Question;
 
 #[derive(Debug, Clone, Copy, PartialEq, Eq)]
@@ -45,5 +43,5 @@ impl Kind {
     }
 }
 
-/// Takes an image and a question; breaks where no more are wanted.
-pub type Visit<'a> = dyn FnMut(Kind, &[u8], Question) -> ControlFlow<()> + 'a;
+/// Takes an image and a question.
+pub type Visit<'a> = dyn FnMut(Kind, &[u8], Question) + 'a;

@@ -3,8 +3,10 @@
 
 #![forbid(unsafe_code)]
 
+pub mod compare;
 pub mod damage;
 pub mod examples;
+pub mod faulty;
 pub mod kind;
 pub mod question;
 pub mod rounds;

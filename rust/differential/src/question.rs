@@ -1,7 +1,5 @@
 //! The questions that are asked about an image, and which points are asked for.
 
-use std::ops::ControlFlow;
-
 use independent::make::Description;
 use independent::random::Random;
 
@@ -30,18 +28,17 @@ impl Question {
 const NS: [u64; 8] = [0, 1, 2, 999_999, 1_000_000, 1_000_001, 1 << 32, u64::MAX];
 
 /// The points of every pair of tasks of a table, joined or not, and of tasks that it does not have.
-pub fn every_pair(table: &Description, visit: &mut Visit) -> ControlFlow<()> {
+pub fn every_pair(table: &Description, visit: &mut Visit) {
     let image = table.image();
     let count = table.tasks.len() as u64;
     let tasks: Vec<u64> = (0..=count).chain([31, 32, 1 << 32, u64::MAX]).collect();
     for &writer in &tasks {
         for &reader in &tasks {
             for n in NS {
-                visit(Kind::Valid, &image, Question::Points { writer, reader, n })?;
+                visit(Kind::Valid, &image, Question::Points { writer, reader, n });
             }
         }
     }
-    ControlFlow::Continue(())
 }
 
 /// The points of some pair, often a joined one, for any n up to a little beyond the limit.

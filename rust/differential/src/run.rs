@@ -2,7 +2,6 @@
 //! until enough images were asked about.
 
 use std::cell::Cell;
-use std::ops::ControlFlow;
 
 use independent::random::Random;
 
@@ -12,26 +11,21 @@ use crate::kind::{Kind, Visit};
 use crate::question::{every_pair, Question};
 use crate::rounds::round;
 
-/// The fewest images of a run in which everything can be expected to occur: those before the random
-/// rounds, 95,747 for any seed, and a few thousand of the rounds.
-pub const LEAST: u64 = 100_000;
-
-/// Visits at least so many images, unless the visitor breaks.
-pub fn run(seed: u64, least: u64, visit: &mut Visit) -> ControlFlow<()> {
+/// Visits at least so many images: 95,747 for any seed, and the random rounds.
+pub fn run(seed: u64, least: u64, visit: &mut Visit) {
     let visited = Cell::new(0);
     let mut counted = |kind: Kind, image: &[u8], question: Question| {
         visited.set(visited.get() + u64::from(question == Question::Read));
-        visit(kind, image, question)
+        visit(kind, image, question);
     };
     let mut random = Random::new(seed);
     for example in examples(&mut random) {
-        every_change(&example, &mut counted)?;
-        every_pair(&example, &mut counted)?;
+        every_change(&example, &mut counted);
+        every_pair(&example, &mut counted);
     }
-    every_size(&mut random, &mut counted)?;
-    shorter_chains(&mut random, &mut counted)?;
+    every_size(&mut random, &mut counted);
+    shorter_chains(&mut random, &mut counted);
     while visited.get() < least {
-        round(&mut random, &mut counted)?;
+        round(&mut random, &mut counted);
     }
-    ControlFlow::Continue(())
 }

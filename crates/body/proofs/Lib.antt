@@ -1,0 +1,4 @@
+-- Laws of the parts. No contract cites them.
+mod ColumnsTaken
+mod InTurn
+mod Readers

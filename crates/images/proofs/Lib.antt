@@ -1,0 +1,4 @@
+-- Laws of the reader, for the crates above and for the functions here.
+mod Bodies
+pub mod Determined
+mod WholeImage

@@ -1,0 +1,3 @@
+-- Definitions of this crate.
+pub mod Fits
+pub mod FromBytes

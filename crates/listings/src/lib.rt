@@ -1,0 +1,1 @@
+// A listing taken out of its bytes: definitions (specs/) and laws (proofs/), no code.
