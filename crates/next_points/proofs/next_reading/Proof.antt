@@ -1,7 +1,7 @@
--- `instants::next_reading` meets its contract. Assumes nothing.
+-- `next_points::next_reading` meets its contract. Assumes nothing.
 use borrow.Author.Needs.{needs}
-use Rattle.instants.proofs.next_reading.Statement.{statement}
-use Rattle.instants.proofs.next_reading.Tie as tie
+use Rattle.next_points.proofs.next_reading.Statement.{statement}
+use Rattle.next_points.proofs.next_reading.Tie as tie
 
 returns : tie.Need-returns
 returns c = rw (c .reading-from .ensures, c .before .first-from .ensures .0)

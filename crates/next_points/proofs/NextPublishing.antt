@@ -15,7 +15,7 @@ use Rattle.times.proofs.Releases.{firstFrom-is-release, firstFrom-at-least, fir
 use Rattle.times.proofs.Releases.{lastTo-is-release, lastTo-at-most, lastTo-near, lastTo-last}
 use Rattle.times.proofs.ReleasesRepeat.{firstFrom-after}
 use Rattle.times.proofs.ReleasesWithin.{released-from-finds, released-from-found}
-use Rattle.instants.specs.Next.{NextFrom, publishingFrom, nextPublishing, publishingAfter}
+use Rattle.next_points.specs.Next.{NextFrom, publishingFrom, nextPublishing, publishingAfter}
 
 module _ (writer reader : Timing) (writes : 0 < writer .period) (reads : 0 < reader .period) (t : ℕ) where
   -- of a slower writer

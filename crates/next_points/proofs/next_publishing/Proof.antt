@@ -1,7 +1,7 @@
--- `instants::next_publishing` meets its contract. Assumes nothing.
+-- `next_points::next_publishing` meets its contract. Assumes nothing.
 use borrow.Author.Needs.{needs}
-use Rattle.instants.proofs.next_publishing.Statement.{statement}
-use Rattle.instants.proofs.next_publishing.Tie as tie
+use Rattle.next_points.proofs.next_publishing.Statement.{statement}
+use Rattle.next_points.proofs.next_publishing.Tie as tie
 
 returns : tie.Need-returns
 returns c = rw (c .publishing-from .ensures, c .before .first-from .ensures .0)

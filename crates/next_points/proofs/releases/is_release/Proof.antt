@@ -1,12 +1,12 @@
--- `instants::releases::is_release` meets its contract, for a period of 0 too. Assumes nothing.
+-- `next_points::releases::is_release` meets its contract, for a period of 0 too. Assumes nothing.
 use Prim.Native.Nat.{ℕ, _%_}
 use mathlib.Core.Path.{refl, sym, ap, _∙_}
 use native.Mathlib.Nat.{mod-zero}
 use borrow.Author.Needs.{needs}
 use lib.Dec.{eqb}
 use Rattle.times.specs.Releases.{isRelease}
-use Rattle.instants.proofs.releases.is_release.Statement.{statement}
-use Rattle.instants.proofs.releases.is_release.Tie as tie
+use Rattle.next_points.proofs.releases.is_release.Statement.{statement}
+use Rattle.next_points.proofs.releases.is_release.Tie as tie
 
 returns : tie.Need-returns
 unfolding isRelease

@@ -1,12 +1,12 @@
--- `instants::releases::last_to` meets its contract: the release is at most t. Assumes nothing.
+-- `next_points::releases::last_to` meets its contract: the release is at most t. Assumes nothing.
 use mathlib.Core.Path.{refl, sym}
 use native.Mathlib.Nat.{div-mul-le-self}
 use native.Mathlib.Omega.{arith}
 use borrow.Author.Needs.{needs}
 use Rattle.times.specs.Releases.{release, floor, lastTo}
 use Rattle.times.proofs.Releases.{release-of-zero}
-use Rattle.instants.proofs.releases.last_to.Statement.{statement}
-use Rattle.instants.proofs.releases.last_to.Tie as tie
+use Rattle.next_points.proofs.releases.last_to.Statement.{statement}
+use Rattle.next_points.proofs.releases.last_to.Tie as tie
 
 returns : tie.Need-returns
 unfolding lastTo

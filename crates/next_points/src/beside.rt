@@ -5,7 +5,7 @@ use crate::releases::first_from;
 use crate::releases::last_to;
 ghost use mathlib.Core.Path.{_≡_};
 ghost use Prim.Native.Nat.{_<_, _^_};
-ghost use Rattle.instants.specs.Next.{publishingFrom, readingFrom};
+ghost use Rattle.next_points.specs.Next.{publishingFrom, readingFrom};
 use times::Timing;
 
 // The first publishing point from a release of the writer on.

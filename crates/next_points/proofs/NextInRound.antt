@@ -11,9 +11,9 @@ use Rattle.times.specs.Releases.{Timing}
 use Rattle.times.specs.Points.{publishesAt, servesAt}
 use Rattle.times.proofs.PointsInRound.{publishesAt-test, servesAt-test}
 use Rattle.times.proofs.PointsCover.{publishesAt-released, servesAt-released}
-use Rattle.instants.specs.Next.{NextFrom, nextPublishing, nextReading, publishingAfter, readingAfter}
-use Rattle.instants.proofs.NextPublishing.{publishing-next, publishing-after}
-use Rattle.instants.proofs.NextReading.{reading-next, reading-after}
+use Rattle.next_points.specs.Next.{NextFrom, nextPublishing, nextReading, publishingAfter, readingAfter}
+use Rattle.next_points.proofs.NextPublishing.{publishing-next, publishing-after}
+use Rattle.next_points.proofs.NextReading.{reading-next, reading-after}
 
 -- two that are next are the same
 pub next-determined : (test : ℕ → Bool) (t a b : ℕ) → NextFrom test t a → NextFrom test t b → a ≡ b

@@ -1,9 +1,9 @@
--- `instants::beside::reading_from` meets its contract, whichever task is the slower. Assumes nothing.
+-- `next_points::beside::reading_from` meets its contract, whichever task is the slower. Assumes nothing.
 use borrow.Author.Needs.{needs}
 use borrow.Author.Tests.{le-leb, lt-leb}
-use Rattle.instants.specs.Next.{readingFrom}
-use Rattle.instants.proofs.beside.reading_from.Statement.{statement}
-use Rattle.instants.proofs.beside.reading_from.Tie as tie
+use Rattle.next_points.specs.Next.{readingFrom}
+use Rattle.next_points.proofs.beside.reading_from.Statement.{statement}
+use Rattle.next_points.proofs.beside.reading_from.Tie as tie
 
 returns : tie.Need-returns
 unfolding readingFrom

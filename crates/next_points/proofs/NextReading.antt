@@ -15,7 +15,7 @@ use Rattle.times.proofs.Releases.{firstFrom-is-release, firstFrom-at-least, fir
 use Rattle.times.proofs.Releases.{releases-apart}
 use Rattle.times.proofs.ReleasesRepeat.{firstFrom-after}
 use Rattle.times.proofs.ReleasesWithin.{released-to-finds, released-to-found}
-use Rattle.instants.specs.Next.{NextFrom, readingFrom, nextReading, readingAfter}
+use Rattle.next_points.specs.Next.{NextFrom, readingFrom, nextReading, readingAfter}
 
 module _ (writer reader : Timing) (writes : 0 < writer .period) (reads : 0 < reader .period) (t : ℕ) where
   -- of a slower reader

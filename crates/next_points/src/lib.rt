@@ -2,7 +2,7 @@
 // and frames). With a period of 0 the answers are what the definitions give; a table has none (document 01: refusal 5).
 ghost use mathlib.Core.Path.{_≡_};
 ghost use Rattle.times.specs.PointTests.{publishingTest, readingTest};
-ghost use Rattle.instants.specs.Next.{nextPublishing, nextReading, publishingAfter, readingAfter};
+ghost use Rattle.next_points.specs.Next.{nextPublishing, nextReading, publishingAfter, readingAfter};
 
 mod beside;
 mod releases;

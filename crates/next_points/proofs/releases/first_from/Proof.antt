@@ -1,4 +1,4 @@
--- `instants::releases::first_from` meets its contract: t + (T − 1) is below 2^64, and the release is at most that.
+-- `next_points::releases::first_from` meets its contract: t + (T − 1) is below 2^64, and the release is at most that.
 -- Assumes nothing.
 use Prim.Native.Nat.{_+_, _*_, _-_, _≤_}
 use mathlib.Core.Path.{refl, sym}
@@ -7,8 +7,8 @@ use native.Mathlib.Omega.{arith}
 use borrow.Author.Needs.{needs}
 use Rattle.times.specs.Releases.{release, ceil, firstFrom}
 use Rattle.times.proofs.Releases.{release-of-zero}
-use Rattle.instants.proofs.releases.first_from.Statement.{statement}
-use Rattle.instants.proofs.releases.first_from.Tie as tie
+use Rattle.next_points.proofs.releases.first_from.Statement.{statement}
+use Rattle.next_points.proofs.releases.first_from.Tie as tie
 
 returns : tie.Need-returns
 unfolding firstFrom

@@ -1,11 +1,9 @@
--- `instants::serves_at` meets its contract: the test, part by part. Assumes nothing.
+-- `next_points::publishes_at` meets its contract: the test, part by part. Assumes nothing.
 use mathlib.Core.Path.{sym, _∙_}
-use native.Mathlib.Omega.{arith}
 use borrow.Author.Needs.{needs}
 use borrow.Author.Tests.{not-true, not-false, le-leb, lt-leb}
-use Rattle.times.proofs.Releases.{lastTo-at-most}
-use Rattle.instants.proofs.serves_at.Statement.{statement}
-use Rattle.instants.proofs.serves_at.Tie as tie
+use Rattle.next_points.proofs.publishes_at.Statement.{statement}
+use Rattle.next_points.proofs.publishes_at.Tie as tie
 
 returns : tie.Need-returns
 returns c = rw (sym (c .before .is-release .ensures) ∙ not-true _ (c .if1 .taken))
@@ -18,11 +16,6 @@ returns-2 c =
       le-leb _ _ (c .if2 .taken),
     )
 
-add-result : tie.Need-add-result
-add-result c =
-    let args = c .before .before .before .before .before .before .before .args in
-    omega (arith, c .before .last-to .ensures, lastTo-at-most (args .writer) (args .t))
-
 returns-3 : tie.Need-returns-3
 returns-3 c =
     let slower = c .before .before in
@@ -30,17 +23,17 @@ returns-3 c =
     rw (
       sym (start .before .is-release .ensures) ∙ not-false _ (start .if1 .left),
       lt-leb _ _ (slower .if2 .left),
-      c .before .last-to .ensures,
+      c .before .first-from .ensures .0,
     )
 
-pub serves-at-spec : {M : Type 1} → statement M
-serves-at-spec =
+pub publishes-at-spec : {M : Type 1} → statement M
+publishes-at-spec =
     tie.close
     (tie.spec
     (λ c κs. search needs)  -- is-release-requires
     returns
     returns-2
-    (λ c κs. search needs)  -- last-to-requires
+    (λ c κs. search needs)  -- first-from-requires
     (λ c. search needs)  -- cast-result
-    add-result
+    (λ c. search needs)  -- add-result
     returns-3)
