@@ -4,6 +4,7 @@ pub mod Determined
 pub mod FieldLaws
 pub mod Fields
 pub mod Held
-pub mod ReadBack
+pub mod HowMany
 pub mod Reached
+pub mod ReadBack
 pub mod Written
