@@ -1,5 +1,6 @@
 -- Laws and theorems of this crate.
 pub mod Bytes
+pub mod BytesOf
 pub mod Determined
 pub mod FieldLaws
 pub mod Fields
@@ -7,3 +8,4 @@ pub mod Held
 pub mod ReadBack
 pub mod Reached
 pub mod Written
+pub mod WrittenParts
