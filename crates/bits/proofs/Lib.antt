@@ -1,5 +1,6 @@
 -- Laws and theorems of this crate.
 pub mod Bytes
+pub mod BytesOf
 pub mod Determined
 pub mod FieldLaws
 pub mod Fields
@@ -8,3 +9,4 @@ pub mod HowMany
 pub mod Reached
 pub mod ReadBack
 pub mod Written
+pub mod WrittenParts
