@@ -1,7 +1,7 @@
 /*
  * Document 01's example image, asked through include/liskobran.h: accepted, with the points of its pair; damaged as in
- * "Numbers to test against", refused with the number and at the place given there. Ends with status 0 where all is as
- * the document says.
+ * "Numbers to test against", refused with the number and at the place given there; and no image at all, said by a null
+ * pointer, refused as the empty one. Ends with status 0 where all is as the document says.
  */
 #include <stdio.h>
 
@@ -19,10 +19,10 @@ static void expect_read(const char *what, const uint8_t *image, size_t length, u
     }
 }
 
-static void expect_points(const uint8_t *image, uint64_t writer, uint64_t reader, uint64_t n, uint32_t number,
-                          uint64_t publishing, uint64_t reading)
+static void expect_points(const uint8_t *image, size_t length, uint64_t writer, uint64_t reader, uint64_t n,
+                          uint32_t number, uint64_t publishing, uint64_t reading)
 {
-    LiskobranPoints answer = liskobran_points(image, 16, writer, reader, n);
+    LiskobranPoints answer = liskobran_points(image, length, writer, reader, n);
     if (answer.number != number || answer.place != 0 || answer.publishing != publishing || answer.reading != reading) {
         printf("points %llu %llu %llu: number %lu, place %llu, publishing %llu, reading %llu\n",
                (unsigned long long)writer, (unsigned long long)reader, (unsigned long long)n,
@@ -38,13 +38,15 @@ int main(void)
                          0x02, 0x00, 0x00, 0x00, 0x01, 0x00, 0x20, 0x00};
     expect_read("the example", image, 16, 0, 0);
     expect_read("the empty image", image, 0, 1, 0);
+    expect_read("no image", NULL, 0, 1, 0);
     expect_read("one more byte", image, 17, 9, 128);
     /* Periods 2 and 5. */
-    expect_points(image, 0, 1, 1, 0, 4, 5);
-    expect_points(image, 0, 1, 2, 0, 10, 10);
-    expect_points(image, 1, 0, 1, 13, 0, 0);
-    expect_points(image, 0, 2, 1, 12, 0, 0);
-    expect_points(image, 0, 1, 1000001, 12, 0, 0);
+    expect_points(image, 16, 0, 1, 1, 0, 4, 5);
+    expect_points(image, 16, 0, 1, 2, 0, 10, 10);
+    expect_points(image, 16, 1, 0, 1, 13, 0, 0);
+    expect_points(image, 16, 0, 2, 1, 12, 0, 0);
+    expect_points(image, 16, 0, 1, 1000001, 12, 0, 0);
+    expect_points(NULL, 0, 0, 1, 1, 1, 0, 0);
     image[15] = 0x21;
     expect_read("last byte 21", image, 16, 9, 127);
     if (!wrong) {

@@ -1,9 +1,11 @@
 /*
- * Liskobran from C: questions about a table image, answered by the functions of libcapi.a (`rt staticlib capi`).
+ * Liskobran from C99 and C++: questions about a table image, answered by libcapi.a (`rt staticlib capi`).
  *
  * Every function may be asked about any bytes; none of them keeps a pointer, writes to the image, allocates or fails
- * in another way than by the numbers below. An image is given by the address of its first byte and its length in bytes;
- * the address is not a null pointer, not even of an image of length 0.
+ * in another way than by the numbers below. An image is given by the address of its first byte and its length in bytes.
+ * Where the length is 0 the image is empty, and the address may be anything, also a null pointer. Where it is above 0,
+ * that many bytes have to be readable at the address, which no function of C can find out: there a null pointer is an
+ * error of the caller's, as is every other address without those bytes.
  *
  * Every answer begins with a number. It is 0 where the question is answered. Else it is one of document 01's numbers
  * that say no, `place` is the bit of the image at which the refusal arose (bit 0 is the top bit of the first byte), and
@@ -43,9 +45,6 @@ typedef struct LiskobranAnswer {
     uint64_t place;
 } LiskobranAnswer;
 
-/* Is the image accepted, or with which number (1 to 10) and at which place is it refused? */
-LiskobranAnswer liskobran_read(const uint8_t *image, size_t length);
-
 /* The points of a pair of tasks: P(n) and Q(n), in ticks (number 0), or refused. */
 typedef struct LiskobranPoints {
     uint32_t number;
@@ -55,11 +54,36 @@ typedef struct LiskobranPoints {
 } LiskobranPoints;
 
 /*
+ * The functions of the archive. They are proved of slices, whose address is not a null pointer even where the length is
+ * 0. The functions below give them such an address: call those.
+ */
+LiskobranAnswer liskobran_read_slice(const uint8_t *image, size_t length);
+LiskobranPoints liskobran_points_slice(const uint8_t *image, size_t length, uint64_t writer, uint64_t reader,
+                                       uint64_t n);
+
+/* An address for bytes of which there are none, read or lent: nothing is ever read or written there. */
+static inline uint8_t *liskobran_no_bytes(void)
+{
+    static uint8_t none;
+    return &none;
+}
+
+/* Is the image accepted, or with which number (1 to 10) and at which place is it refused? */
+static inline LiskobranAnswer liskobran_read(const uint8_t *image, size_t length)
+{
+    return liskobran_read_slice(length == 0 ? liskobran_no_bytes() : image, length);
+}
+
+/*
  * The publishing point P(n) and the reading point Q(n) of the tasks `writer` and `reader` of the image's table. Refused
  * with the image's own number and place; with 12 where a task is not in the table or n is above 1,000,000; with 13
  * where no label goes from the writer to the reader.
  */
-LiskobranPoints liskobran_points(const uint8_t *image, size_t length, uint64_t writer, uint64_t reader, uint64_t n);
+static inline LiskobranPoints liskobran_points(const uint8_t *image, size_t length, uint64_t writer, uint64_t reader,
+                                               uint64_t n)
+{
+    return liskobran_points_slice(length == 0 ? liskobran_no_bytes() : image, length, writer, reader, n);
+}
 
 #ifdef __cplusplus
 }

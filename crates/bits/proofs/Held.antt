@@ -2,7 +2,7 @@
 -- this file. Assumes nothing.
 use Prim.Native.Nat.{ℕ, zero, suc, _+_, _*_, _-_, _<_, _≤_}
 use mathlib.Core.Logic.{by-cases}
-use mathlib.Core.Path.{_≡_, refl, sym, ap, _∙_}
+use mathlib.Core.Path.{_≡_, refl, sym, _∙_}
 use mathlib.Core.List.{List, _++_}
 use native.Mathlib.Nat.{add-assoc, zero-add}
 use native.Mathlib.Decide.{decLt}
@@ -12,6 +12,7 @@ use lib.ListN.{length, getD, drop, length-append, List·getD-append}
 use lib.Seq.{ext-getD, getD-append-add, getD-drop}
 use Rattle.bits.specs.Bits.{bitCount, bitAt, fieldAt}
 use Rattle.bits.specs.Packing.{Field, bitsOfAll, bytesOf, bytesFor, packed}
+use Rattle.bits.proofs.BytesOf.{length-bytes}
 use Rattle.bits.proofs.Fields.{field-byte}
 use Rattle.bits.proofs.ReadBack.{all-written-below, bit-read-back}
 use Rattle.bits.proofs.Written.{formed-below}
@@ -62,11 +63,6 @@ module _ (fields : List Field) where
   -- how many bits the fields have
   abbrev pub bitsIn : ℕ
   bitsIn = length (bitsOfAll fields)
-
-  length-bytes : (n : ℕ) (bits : List ℕ) → length (bytesOf n bits) ≡ n
-  unfolding bytesOf
-  length-bytes zero bits = refl
-  length-bytes (suc n) bits = ap suc (length-bytes n _)
 
   pub length-packed : length (packed fields) ≡ bytesFor bitsIn
   unfolding packed

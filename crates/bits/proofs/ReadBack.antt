@@ -2,7 +2,7 @@
 -- after the other. No contract cites this file. Assumes nothing.
 use Prim.Native.Nat.{ℕ, zero, suc, _+_, _-_, _*_, _/_, _%_, _<_}
 use mathlib.Core.Path.{_≡_, refl, _∙_}
-use mathlib.Core.List.{List, [], _∷_, _++_}
+use mathlib.Core.List.{List, [], _∷_, _++_, append-nil}
 use native.Mathlib.Nat.{mod-lt}
 use native.Mathlib.Omega.{arith}
 use lib.Dec.{lit<}
@@ -11,7 +11,7 @@ use lib.Seq.{drop-drop, getD-drop}
 use Rattle.lists.specs.Lists.{eachOf}
 use Rattle.lists.proofs.Each.{each-of-append}
 use Rattle.bits.specs.Bits.{bitAt}
-use Rattle.bits.specs.Packing.{Field, bitsOf, bitsOfAll, formedBy, bytesOf}
+use Rattle.bits.specs.Packing.{Field, bits, bitsOf, bitsOfAll, formedBy, bytesOf}
 use Rattle.bits.proofs.Written.{BitsTo, formed-bit}
 
 -- byte i is formed by the eight bits from bit 8 * i on
@@ -59,3 +59,9 @@ all-written-below (f ∷ fields) j =
 pub all-written-append : (before after : List Field) → bitsOfAll (before ++ after) ≡ bitsOfAll before ++ bitsOfAll after
 unfolding bitsOfAll
 all-written-append before after = each-of-append (λ f. bitsOf (f .width) (f .value)) before after
+
+-- one field more
+pub all-written-more : (before : List Field) (w v : ℕ)
+    → bitsOfAll (before ++ bits w v ∷ []) ≡ bitsOfAll before ++ bitsOf w v
+unfolding bitsOfAll eachOf
+all-written-more before w v = all-written-append before (bits w v ∷ []) ∙ rw append-nil

@@ -1,8 +1,9 @@
 // The C interface: each question about an image as one function of C's, its answer a struct of numbers. The number is 0
 // where the question is answered, and else that of document 01, Numbers that say no. What each answer says:
-// specs/Said.antt. No function requires anything; include/liskobran.h declares them for C.
-mod pairs;
-mod reading;
+// specs/Said.antt. No function requires anything. A slice has an address that is not null; include/liskobran.h declares
+// the functions for C, and others over them that take an empty image by any address.
+pub mod pairs;
+pub mod reading;
 
 // Of an image: 0 and 0 where it is accepted, else the refusal's number and place.
 #[repr(C)]

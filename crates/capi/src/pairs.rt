@@ -7,7 +7,7 @@ use questions::PointsAnswer;
 
 // The publishing point P(n) and the reading point Q(n) of a writer and a reader, two tasks of the image's table.
 #[no_mangle]
-pub extern "C" fn liskobran_points(
+pub extern "C" fn liskobran_points_slice(
     image: &[u8],
     writer: u64,
     reader: u64,

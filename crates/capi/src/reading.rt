@@ -7,7 +7,7 @@ use table::Answer;
 
 // Is the image accepted, or with which number and at which place is it refused?
 #[no_mangle]
-pub extern "C" fn liskobran_read(image: &[u8]) -> LiskobranAnswer
+pub extern "C" fn liskobran_read_slice(image: &[u8]) -> LiskobranAnswer
     ensures { λ r. ⌜ r ≡ readSaid (answerOf (now (image .entry))) ⌝ }
 {
     let read = images::read_table(image);

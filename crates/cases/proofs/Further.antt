@@ -17,7 +17,7 @@ use Rattle.copies.specs.Listing.{copyFields, frameFields, listingFields, listin
 use Rattle.copies.specs.Plans.{listedPlan, fullPlan}
 use Rattle.ages.specs.Ages.{follow, endOf, isBasic, lengthOf, ageOf, roundOf, basicPaths, largest, least, worstAge}
 use Rattle.ages.specs.Ages.{bestAge, agesOf, chainTimings, agesOfChain}
-use Rattle.questions.specs.Questions.{pointsOf, points, listing, lentAfter, bytesListed, ages}
+use Rattle.questions.specs.Questions.{coreListed, pointsOf, points, listing, lentAfter, bytesListed, ages}
 use Rattle.printing.specs.Words.{digitsIn, decimal, named}
 use Rattle.printing.specs.Printed.{copyText, frameText, coreText, chainText, wholeText, printable, textOf, printed}
 use Rattle.cases.specs.Kinds.{AllHold, none, _also_, Holds}
@@ -31,7 +31,7 @@ unfolding Holds someBelow eachBelow eachOf padded bitCount bitAt fieldAt bitsOf 
     rowsOf stepHolds chainTask chainFields fill allFields wholeFields readImage answerOf written served
     writesAt readsAt copiesAt framesAt framesOf copyFields frameFields listingFields listingOf listedPlan fullPlan
     follow endOf isBasic lengthOf ageOf roundOf basicPaths largest least worstAge bestAge agesOf chainTimings
-    agesOfChain pointsOf points listing lentAfter bytesListed ages digitsIn decimal named copyText frameText coreText
+    agesOfChain pointsOf points coreListed listing lentAfter bytesListed ages digitsIn decimal named copyText frameText coreText
     chainText wholeText printable textOf printed
 further-cases-hold =
     refl also refl also refl also refl also refl also refl also refl also refl also refl also refl

@@ -1,10 +1,12 @@
--- Entries over a list: none, one more stored, over a list of one filler, and as one list before another. Assumes nothing.
-use Prim.Native.Nat.{ℕ, zero, suc, _-_, _<_, _≤_}
+-- Entries over a list: none, one or several more stored, over a list of one filler, and as one list before another.
+-- Assumes nothing.
+use Prim.Native.Nat.{ℕ, zero, suc, _+_, _-_, _<_, _≤_}
 use mathlib.Core.Path.{_≡_, refl, sym, ap, _∙_}
-use mathlib.Core.List.{List, [], _∷_, _++_, map, map-append}
-use native.Mathlib.Nat.{sub-zero, suc-sub-suc, le-of-suc-le-suc, not-suc-le-zero}
+use mathlib.Core.List.{List, [], _∷_, _++_, map, map-append, append-nil}
+use native.Mathlib.Nat.{add-zero, sub-zero, suc-sub-suc, le-of-suc-le-suc, not-suc-le-zero}
 use native.Mathlib.Omega.{arith}
 use lib.ListN.{length, set, drop, replicate, length-append, length-map}
+use lib.Seq.{sets, append-snoc}
 use Rattle.lists.specs.Lists.{padded, over}
 
 -- no entries
@@ -20,6 +22,22 @@ over-more [] [] x = refl
 over-more [] (first ∷ held) x = refl
 over-more (y ∷ entries) [] x = refl
 over-more (y ∷ entries) (first ∷ held) x = ap (λ l. y ∷ l) (over-more entries held x)
+
+-- several more entries were stored, one after the other
+pub over-stored : {A : Type 0} (entries held more : List A)
+    → sets (over entries held) (length entries) more ≡ over (entries ++ more) held
+over-stored entries held [] = rw append-nil
+over-stored entries held (x ∷ more) =
+    let long : length (entries ++ x ∷ []) ≡ suc (length entries) = simp length-append (omega arith) in
+    rw (over-more entries held x, ← long, ← append-snoc entries x more) (over-stored (entries ++ x ∷ []) held more)
+
+-- the last of several that were stored
+pub stored-last : {A : Type 0} (held : List A) (at : ℕ) (more : List A) (x : A)
+    → sets held at (more ++ x ∷ []) ≡ set (sets held at more) (at + length more) x
+stored-last held at [] x = rw add-zero
+stored-last held at (y ∷ more) x =
+    let place : at + suc (length more) ≡ suc at + length more = omega arith in
+    rw place (stored-last (set held at y) (suc at) more x)
 
 -- the same of a list that holds one thing of each of those that were taken
 pub held-more : {A B : Type 0} (h : A → B) (taken : List A) (held : List B) (i : ℕ) (x : A)

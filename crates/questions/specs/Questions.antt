@@ -39,13 +39,15 @@ unfoldable pub points : (image : List ℕ) (writer reader n : ℕ) → Outcome P
 points image writer reader n = askedOf (readImage image) (λ whole. pointsOf (whole .table) writer reader n)
 
 -- 12: "asked core .. not in the table"; 11: "lent buffer shorter than the listing"; else the listing's bytes
+unfoldable pub coreListed : (table : Table) (core room : ℕ) → Outcome (List ℕ)
+coreListed table core room =
+    refusedUnless 12 (ltb core (table .cores))
+    (refusedUnless 11 (leb (length (listingOf table core)) room)
+    (gives (listingOf table core)))
+
+-- the listing of a core, asked of the image: its own refusal first
 unfoldable pub listing : (image : List ℕ) (core room : ℕ) → Outcome (List ℕ)
-listing image core room =
-    askedOf (readImage image)
-    (λ whole.
-    refusedUnless 12 (ltb core (whole .table .cores))
-    (refusedUnless 11 (leb (length (listingOf (whole .table) core)) room)
-    (gives (listingOf (whole .table) core))))
+listing image core room = askedOf (readImage image) (λ whole. coreListed (whole .table) core room)
 
 -- "On success a listing fills the first bytes of the buffer, .. and the bytes after them keep their values"; after a
 -- refusal "each lent buffer then holds what it held"

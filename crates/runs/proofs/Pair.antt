@@ -7,9 +7,9 @@ use mathlib.Core.Path.{_≡_, subst}
 use native.Mathlib.Decide.{decLt}
 use native.Mathlib.Omega.{arith}
 use Rattle.lists.proofs.Bools.{not-both}
-use Rattle.times.specs.Releases.{Timing, isRelease}
+use Rattle.times.specs.Releases.{Timing, isRelease, lastTo}
 use Rattle.times.specs.Points.{publishesAt, servesAt}
-use Rattle.times.proofs.Releases.{lastTo, lastTo-is-release, lastTo-at-most, lastTo-last}
+use Rattle.times.proofs.Releases.{lastTo-is-release, lastTo-at-most, lastTo-last}
 use Rattle.times.proofs.PointsCover.{publishesAt-released, servesAt-released}
 use Rattle.times.proofs.PointsCover.{publishesAt-last-write, servesAt-after-last-write}
 use Rattle.runs.specs.Sufficing.{LastUpTo, SomeWithin}

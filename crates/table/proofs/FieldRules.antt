@@ -55,7 +55,7 @@ task-rules cores =
 abbrev pub Marked : (tasks : ℕ) → Label → Type 0
 Marked tasks label = (i : ℕ) → marks (label .readers) i ≡ true → (i < tasks) × ¬ (i ≡ label .writer)
 
-right-marked : (tasks writer readers : ℕ) → rightReaders tasks writer readers ≡ true
+pub right-marked : (tasks writer readers : ℕ) → rightReaders tasks writer readers ≡ true
     → Marked tasks (record { writer = writer; readers = readers })
 unfolding rightReaders marks
 right-marked tasks writer readers right i marked =

@@ -2,6 +2,7 @@
 pub mod Accepted
 pub mod ChainRules
 pub mod FieldRules
+pub mod FillSays
 pub mod FirstBytes
 pub mod MeetsRules
 pub mod Numbers

@@ -16,15 +16,13 @@ use Rattle.bits.specs.Packing.{Field, bits, bitsOf, bitsOfAll}
 use Rattle.bits.proofs.Written.{written-length}
 use Rattle.bits.proofs.ReadBack.{all-written-append}
 use Rattle.bits.proofs.Held.{Held, held-first, held-rest, bitsIn}
+use Rattle.bits.proofs.HowMany.{bits-both}
 use Rattle.bits.proofs.FieldLaws.{field-read-of-written}
 use Rattle.outcomes.specs.Outcome.{gives}
 use Rattle.taking.specs.Reading.{Taker, done, _then_, field, inRow}
 
 -- fields in two parts
 module _ (fs gs : List Field) where
-  pub bits-in-parts : bitsIn (fs ++ gs) ≡ bitsIn fs + bitsIn gs
-  bits-in-parts = ap length (all-written-append fs gs) ∙ length-append (bitsOfAll fs) (bitsOfAll gs)
-
   pub held-parts : (image : List ℕ) (at : ℕ) → Held image at (bitsOfAll (fs ++ gs))
       → Held image at (bitsOfAll fs) × Held image (at + bitsIn fs) (bitsOfAll gs)
   held-parts image at held =
@@ -49,7 +47,7 @@ then-reads {A} {B} {first} rest {fs} {gs} {a} {b} of-first of-rest = record {
       let parts = held-parts fs gs image at held in
       let one = of-first .taken image at (parts .0) in
       let other = of-rest .taken image (at + bitsIn fs) (parts .1) in
-      rw (one, other, bits-in-parts fs gs, add-assoc at (bitsIn fs) (bitsIn gs));
+      rw (one, other, bits-both fs gs, add-assoc at (bitsIn fs) (bitsIn gs));
 }
 
 pub field-reads : (w number v : ℕ) (right : ℕ → Bool) → v < 2 ^ w → right v ≡ true

@@ -20,7 +20,7 @@ use Rattle.outcomes.specs.Outcome.{Outcome, gives, refuses, askedOf}
 use Rattle.taking.specs.Reading.{Taker, Taken, done, _then_, field, inRow}
 use Rattle.taking.proofs.FieldLaws.{taken-field}
 use Rattle.outcomes.proofs.Outcomes.{same-given, gives-no-refusal}
-use Rattle.taking.proofs.HeldRead.{bits-in-parts}
+use Rattle.bits.proofs.HowMany.{bits-both}
 
 -- what was taken of two, one after the other
 pub record Both {A B : Type 0} (first : Taker A) (rest : A → Taker B) (image : List ℕ) (at : ℕ) (given : Taken B)
@@ -78,7 +78,7 @@ then-holds As Bs first rest of-first of-rest image at given inside e =
       held = subst (Held image at) (sym (all-written-append (fs .fields) (gs .fields)))
           (held-both image at (bitsOfAll (fs .fields)) (bitsOfAll (gs .fields)) (fs .held)
           (subst (λ place. Held image place (bitsOfAll (gs .fields))) (fs .next) (gs .held)));
-      next = omega (arith, bits-in-parts (fs .fields) (gs .fields));
+      next = omega (arith, bits-both (fs .fields) (gs .fields));
     }
 
 pub field-holds : (As : ℕ → List Field → Type 0) (w number : ℕ) (right : ℕ → Bool)

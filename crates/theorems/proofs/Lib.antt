@@ -1,2 +1,4 @@
--- Laws and theorems of this crate.
-pub mod Theorems
+-- The three demands, a file for each; every statement is proved by citing.
+pub mod Demand1
+pub mod Demand2
+pub mod Demand3

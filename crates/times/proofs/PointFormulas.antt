@@ -6,13 +6,13 @@ use Prim.Native.Nat.{ℕ, _+_, _*_, _-_, _/_, _<_, _≤_}
 use mathlib.Core.Path.{_≡_, ap, _∙_}
 use mathlib.Core.Logic.{by-cases}
 use mathlib.Core.Bool.{true}
-use native.Mathlib.Nat.{max-eq-left, max-eq-right, mul-add-div-right, div-eq-of-lt, mul-div-cancel, mul-zero}
+use native.Mathlib.Nat.{max-eq-left, max-eq-right, mul-add-div-right, div-eq-of-lt, mul-div-cancel}
 use native.Mathlib.Nat.{le-mul-of-pos-right, le-div-iff-mul-le, mul-le-mul-left, le-max-left, le-max-right}
 use native.Mathlib.Decide.{decLe}
 use native.Mathlib.Omega.{arith}
-use Rattle.times.specs.Releases.{Timing, release, isRelease, floor, ceil, firstFrom}
+use Rattle.times.specs.Releases.{Timing, release, isRelease, floor, ceil, firstFrom, lastTo}
 use Rattle.times.specs.Points.{larger, publishing, reading}
-use Rattle.times.proofs.Releases.{lastTo, release-is-release, lastTo-at-most, lastTo-last}
+use Rattle.times.proofs.Releases.{release-of-zero, release-is-release, lastTo-at-most, lastTo-last}
 use Rattle.times.proofs.Releases.{firstFrom-at-least, firstFrom-first}
 
 -- a publishing point is a release of the writer, a reading point one of the reader
@@ -27,16 +27,12 @@ reading-is-release writer reader n = release-is-release reader (ceil (n * larger
 module _ (writer reader : Timing) where
   -- with a period of 0 there is no point but 0
   pub publishing-of-zero : writer .period ≡ 0 → (n : ℕ) → publishing writer reader n ≡ 0
-  unfolding publishing
-  publishing-of-zero e n =
-      let number = floor (n * larger writer reader) (writer .period) in
-      ap (λ (T : ℕ). number * T) e ∙ mul-zero number
+  unfolding publishing release
+  publishing-of-zero e n = release-of-zero writer e (floor (n * larger writer reader) (writer .period))
 
   pub reading-of-zero : reader .period ≡ 0 → (n : ℕ) → reading writer reader n ≡ 0
-  unfolding reading
-  reading-of-zero e n =
-      let number = ceil (n * larger writer reader) (reader .period) in
-      ap (λ (T : ℕ). number * T) e ∙ mul-zero number
+  unfolding reading release
+  reading-of-zero e n = release-of-zero reader e (ceil (n * larger writer reader) (reader .period))
 
   -- where the writer has the smaller or equal period
   pub publishing-last-before

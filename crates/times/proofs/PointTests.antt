@@ -1,4 +1,4 @@
--- The fast tests for a point, as tests that compute; `PublishingTest` and `ReadingTest` prove them right.
+-- How the test for a point is put together from the two cases of the periods, for `PublishingTest` and `ReadingTest`.
 -- Assumes nothing.
 use Prim.Native.Nat.{ℕ, _≤_}
 use mathlib.Core.Path.{_≡_}
@@ -9,20 +9,8 @@ use native.Mathlib.Omega.{arith}
 use lib.Dec.{leb}
 use borrow.Author.Tests.{leb-true, le-leb}
 use Rattle.lists.proofs.Bools.{same-test, and-parts, and-of-parts, or-part, or-of-left, or-of-right}
-use Rattle.times.specs.Releases.{Timing, isRelease}
-use Rattle.times.proofs.ReleasesWithin.{releasedFrom, releasedTo}
 
--- a release t of the writer, where the writer has the larger or equal period or the reader has a release in [t, t + Tw)
-abbrev pub publishingTest : Timing → Timing → ℕ → Bool
-publishingTest writer reader t =
-    isRelease writer t && (leb (reader .period) (writer .period) || releasedFrom reader t (writer .period))
-
--- a release t of the reader, where the reader has the larger or equal period or the writer has a release in (t − Tr, t]
-abbrev pub readingTest : Timing → Timing → ℕ → Bool
-readingTest writer reader t =
-    isRelease reader t && (leb (writer .period) (reader .period) || releasedTo writer t (reader .period))
-
--- how a test is put together from the two cases of the periods
+-- from the slower task, whose every release is a point, and the faster one, of which a release has to be near
 pub test-of-cases
     : (point released near : Bool) (own other : ℕ)
     → (point ≡ true → released ≡ true)

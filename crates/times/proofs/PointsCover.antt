@@ -6,9 +6,9 @@ use mathlib.Core.Path.{_≡_, sym, _∙_}
 use mathlib.Core.Bool.{true}
 use lib.Dec.{leb}
 use Rattle.lists.proofs.Bools.{and-parts, and-of-parts, or-of-right}
-use Rattle.times.specs.Releases.{Timing, isRelease, firstFrom}
+use Rattle.times.specs.Releases.{Timing, isRelease, firstFrom, lastTo}
 use Rattle.times.specs.Points.{publishesAt, servesAt}
-use Rattle.times.proofs.Releases.{lastTo, lastTo-at-most, lastTo-near, lastTo-is-release}
+use Rattle.times.proofs.Releases.{lastTo-at-most, lastTo-near, lastTo-is-release}
 use Rattle.times.proofs.Releases.{firstFrom-at-least, firstFrom-near, firstFrom-first, firstFrom-is-release}
 use Rattle.times.proofs.ReleasesWithin.{released-from-found, released-to-found}
 use Rattle.times.proofs.PointsInRound.{publishesAt-test, servesAt-test}

@@ -9,8 +9,8 @@ use mathlib.Core.Logic.{_↔_}
 use native.Mathlib.Nat.{add-mod-right, mod-mod}
 use Rattle.times.specs.Releases.{Timing}
 use Rattle.times.specs.Points.{publishing, reading, isPublishing, isReading, publishesAt, servesAt}
+use Rattle.times.specs.PointTests.{publishingTest, readingTest}
 use Rattle.times.proofs.PointSearch.{publishing-finds, publishing-found, reading-finds, reading-found}
-use Rattle.times.proofs.PointTests.{publishingTest, readingTest}
 use Rattle.times.proofs.PublishingTest.{publishing-test}
 use Rattle.times.proofs.ReadingTest.{reading-test}
 use Rattle.times.proofs.PointsRepeat.{publishing-modulo, reading-modulo}

@@ -6,8 +6,8 @@ use mathlib.Core.Bool.{Bool, _&&_, _||_}
 use native.Mathlib.Nat.{dvd-mul-left-of-dvd, mod-add-div'}
 use lib.Dec.{leb}
 use Rattle.times.specs.Releases.{Timing}
+use Rattle.times.specs.PointTests.{publishingTest, readingTest}
 use Rattle.times.proofs.ReleasesRepeat.{release-repeats, released-from-repeats, released-to-repeats}
-use Rattle.times.proofs.PointTests.{publishingTest, readingTest}
 
 module _ (writer reader : Timing) (writes : 0 < writer .period) (reads : 0 < reader .period) where
   publishing-repeats

@@ -6,11 +6,12 @@ use mathlib.Core.Bool.{true}
 use native.Mathlib.Omega.{arith}
 use Rattle.times.specs.Releases.{Timing, release, isRelease}
 use Rattle.times.specs.Points.{isPublishing}
+use Rattle.times.specs.PointTests.{releasedFrom, publishingTest}
 use Rattle.times.proofs.Releases.{release-is-release, release-number, lastTo-at-most, lastTo-near, lastTo-is}
-use Rattle.times.proofs.ReleasesWithin.{releasedFrom, released-from-finds, released-from-found}
+use Rattle.times.proofs.ReleasesWithin.{released-from-finds, released-from-found}
 use Rattle.times.proofs.PointFormulas.{publishing-is-release, publishing-last-before, publishing-numbered}
 use Rattle.times.proofs.PointSearch.{publishing-finds, publishing-found}
-use Rattle.times.proofs.PointTests.{publishingTest, test-of-cases}
+use Rattle.times.proofs.PointTests.{test-of-cases}
 
 module _ (writer reader : Timing) (writes : 0 < writer .period) (reads : 0 < reader .period) (t : ℕ) where
   publishing-released : isPublishing writer reader t ≡ true → isRelease writer t ≡ true

@@ -6,12 +6,13 @@ use mathlib.Core.Bool.{true}
 use native.Mathlib.Omega.{arith}
 use Rattle.times.specs.Releases.{Timing, release, isRelease}
 use Rattle.times.specs.Points.{isReading}
+use Rattle.times.specs.PointTests.{releasedTo, readingTest}
 use Rattle.times.proofs.Releases.{release-is-release, release-number}
 use Rattle.times.proofs.Releases.{firstFrom-at-least, firstFrom-near, firstFrom-is}
-use Rattle.times.proofs.ReleasesWithin.{releasedTo, released-to-finds, released-to-found}
+use Rattle.times.proofs.ReleasesWithin.{released-to-finds, released-to-found}
 use Rattle.times.proofs.PointFormulas.{reading-is-release, reading-first-after, reading-numbered}
 use Rattle.times.proofs.PointSearch.{reading-finds, reading-found}
-use Rattle.times.proofs.PointTests.{readingTest, test-of-cases}
+use Rattle.times.proofs.PointTests.{test-of-cases}
 
 module _ (writer reader : Timing) (writes : 0 < writer .period) (reads : 0 < reader .period) (t : ℕ) where
   reading-released : isReading writer reader t ≡ true → isRelease reader t ≡ true

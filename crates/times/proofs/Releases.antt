@@ -2,19 +2,20 @@
 -- apart, and that releases repeat with every multiple of the period. Document 01: "A task with period T is released at
 -- 0, T, 2T and so on". What is said of releases elsewhere rests on the laws here. Assumes nothing.
 use Prim.Native.Nat.{ℕ, suc, _+_, _*_, _-_, _/_, _%_, _<_, _≤_}
-use mathlib.Core.Path.{_≡_}
+use mathlib.Core.Path.{_≡_, ap, _∙_}
 use mathlib.Core.Logic.{by-cases}
 use mathlib.Core.Bool.{true}
 use native.Mathlib.Nat.{div-add-mod', div-mul-le-self, lt-div-mul-add, lt-of-mul-lt-mul-right, mul-le-mul-right}
-use native.Mathlib.Nat.{mul-mod-left, suc-mul}
+use native.Mathlib.Nat.{mul-mod-left, mul-zero, suc-mul}
 use native.Mathlib.Decide.{decLt}
 use native.Mathlib.Omega.{arith}
 use borrow.Author.Tests.{eqb-true, eq-eqb}
-use Rattle.times.specs.Releases.{Timing, release, isRelease, floor, ceil, firstFrom}
+use Rattle.times.specs.Releases.{Timing, release, isRelease, floor, ceil, firstFrom, lastTo}
 
--- the task's last release at or before t
-unfoldable pub lastTo : Timing → ℕ → ℕ
-lastTo task t = release task (floor t (task .period))
+-- a period of 0 has no release but 0
+pub release-of-zero : (task : Timing) → task .period ≡ 0 → (k : ℕ) → release task k ≡ 0
+unfolding release
+release-of-zero task e k = ap (λ (T : ℕ). k * T) e ∙ mul-zero k
 
 -- every release is one
 pub release-is-release : (task : Timing) (k : ℕ) → isRelease task (release task k) ≡ true

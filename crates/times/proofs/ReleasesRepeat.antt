@@ -1,16 +1,17 @@
 -- Releases repeat with every multiple of the task's period, and with them the first at or after a tick and the last at
 -- or before it. Assumes nothing.
-use Prim.Native.Nat.{ℕ, _+_, _%_, _<_, _∣_}
+use Prim.Native.Nat.{ℕ, suc, _+_, _%_, _<_, _∣_}
 use mathlib.Core.Path.{_≡_, sym, ap, _∙_}
-use native.Mathlib.Nat.{add-mod-mod, add-zero, mod-eq-zero-of-dvd}
+use mathlib.Core.Bool.{true}
+use native.Mathlib.Nat.{add-mod-mod, add-zero, dvd-refl, mod-eq-zero-of-dvd}
 use native.Mathlib.Omega.{arith}
 use lib.Dec.{eqb, ltb}
 use borrow.Author.Tests.{ltb-true, lt-ltb}
 use Rattle.lists.proofs.Bools.{same-test}
-use Rattle.times.specs.Releases.{Timing, isRelease, firstFrom}
-use Rattle.times.proofs.Releases.{lastTo, firstFrom-is, firstFrom-is-release, firstFrom-at-least, firstFrom-near}
+use Rattle.times.specs.PointTests.{releasedFrom, releasedTo}
+use Rattle.times.specs.Releases.{Timing, isRelease, firstFrom, lastTo}
+use Rattle.times.proofs.Releases.{firstFrom-is, firstFrom-is-release, firstFrom-at-least, firstFrom-near}
 use Rattle.times.proofs.Releases.{lastTo-is, lastTo-is-release, lastTo-at-most, lastTo-near}
-use Rattle.times.proofs.ReleasesWithin.{releasedFrom, releasedTo}
 
 same-order : (a b c d : ℕ) → (a < b → c < d) → (c < d → a < b) → ltb a b ≡ ltb c d
 same-order a b c d to from =
@@ -69,3 +70,11 @@ module _ (task : Timing) (H : ℕ) (multiple : task .period ∣ H) where
         (lastTo task t + length)
         (λ h. omega (arith, lastTo-repeats t))
         (λ h. omega (arith, lastTo-repeats t))
+
+-- after a release the next is a period later
+pub firstFrom-after : (task : Timing) → 0 < task .period → (t : ℕ) → isRelease task t ≡ true
+    → firstFrom task (suc t) ≡ t + task .period
+firstFrom-after task positive t released =
+    let T = task .period in
+    firstFrom-is task positive (suc t) (t + T) (release-repeats task T (dvd-refl T) t ∙ released)
+    (omega arith) (omega arith)

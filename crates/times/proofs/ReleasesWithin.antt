@@ -1,22 +1,14 @@
--- Whether a release lies within a stretch of time, as tests that compute: from a tick on, and up to a tick.
--- Assumes nothing.
+-- The tests whether a release lies within a stretch of time, from a tick on and up to a tick, find exactly such
+-- releases. Assumes nothing.
 use Prim.Native.Nat.{ℕ, _+_, _<_, _≤_}
 use mathlib.Core.Path.{_≡_}
-use mathlib.Core.Bool.{Bool, true}
+use mathlib.Core.Bool.{true}
 use native.Mathlib.Omega.{arith}
-use lib.Dec.{ltb}
 use borrow.Author.Tests.{ltb-true, lt-ltb}
-use Rattle.times.specs.Releases.{Timing, isRelease, firstFrom}
-use Rattle.times.proofs.Releases.{lastTo, lastTo-at-most, lastTo-last, lastTo-is-release}
+use Rattle.times.specs.Releases.{Timing, isRelease, firstFrom, lastTo}
+use Rattle.times.specs.PointTests.{releasedFrom, releasedTo}
+use Rattle.times.proofs.Releases.{lastTo-at-most, lastTo-last, lastTo-is-release}
 use Rattle.times.proofs.Releases.{firstFrom-at-least, firstFrom-first, firstFrom-is-release}
-
--- a release lies in [t, t + length)
-abbrev pub releasedFrom : Timing → ℕ → ℕ → Bool
-releasedFrom task t length = ltb (firstFrom task t) (t + length)
-
--- a release lies in (t − length, t]
-abbrev pub releasedTo : Timing → ℕ → ℕ → Bool
-releasedTo task t length = ltb t (lastTo task t + length)
 
 module _ (task : Timing) (positive : 0 < task .period) where
   pub released-from-finds

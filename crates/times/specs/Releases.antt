@@ -36,3 +36,7 @@ jobEnd task t = t + task .period
 -- the task's first release at or after t
 unfoldable pub firstFrom : Timing → ℕ → ℕ
 firstFrom task t = release task (ceil t (task .period))
+
+-- the task's last release at or before t
+unfoldable pub lastTo : Timing → ℕ → ℕ
+lastTo task t = release task (floor t (task .period))

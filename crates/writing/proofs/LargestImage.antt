@@ -12,59 +12,50 @@ use Rattle.bits.specs.Bits.{bitCount}
 use Rattle.bits.specs.Packing.{Field, bits, bitsOf, bitsOfAll}
 use Rattle.bits.proofs.Written.{written-length}
 use Rattle.bits.proofs.Held.{bitsIn}
+use Rattle.bits.proofs.HowMany.{bits-none, bits-more, bits-both}
 use Rattle.table.specs.Table.{chainOf}
 use Rattle.table.specs.Image.{Head, Task, Label, Whole, readImage}
 use Rattle.table.specs.Rules.{MeetsRules}
 use Rattle.table.proofs.MeetsRules.{accepted-meets-rules}
 use Rattle.writing.specs.Written.{headWritten, taskWritten, labelWritten, chainWritten}
 use Rattle.writing.specs.Written.{headOf, tasksOf, labelsOf, chainsOf, imageFields}
-use Rattle.taking.proofs.HeldRead.{bits-in-parts}
 use Rattle.writing.proofs.WrittenOfRead.{accepted-spelt}
-
-one-more : (w v : ℕ) (fields : List Field) → bitsIn (bits w v ∷ fields) ≡ w + bitsIn fields
-unfolding bitsOfAll eachOf
-one-more w v fields =
-    length-append (bitsOf w v) (bitsOfAll fields) ∙ ap (λ n. n + bitsIn fields) (written-length w v)
-
-none : bitsIn [] ≡ 0
-unfolding bitsOfAll eachOf
-none = refl
 
 head-bits : (head : Head) → bitsIn (headWritten 1 head) ≡ 26
 unfolding headWritten
-head-bits head = rw (one-more, one-more, one-more, one-more, one-more, none)
+head-bits head = rw (bits-more, bits-more, bits-more, bits-more, bits-more, bits-none)
 
 task-bits : (task : Task) → bitsIn (taskWritten task) ≡ 23
 unfolding taskWritten
-task-bits task = rw (one-more, one-more, none)
+task-bits task = rw (bits-more, bits-more, bits-none)
 
 label-bits : (label : Label) → bitsIn (labelWritten label) ≡ 37
 unfolding labelWritten
-label-bits label = rw (one-more, one-more, none)
+label-bits label = rw (bits-more, bits-more, bits-none)
 
 steps-bits : (chain : List ℕ) → bitsIn (eachOf chain (λ task. bits 5 task ∷ [])) ≡ 5 * length chain
 unfolding eachOf
-steps-bits [] = none
-steps-bits (task ∷ chain) = let more = steps-bits chain in one-more 5 task _ ∙ omega arith
+steps-bits [] = bits-none
+steps-bits (task ∷ chain) = let more = steps-bits chain in bits-more 5 task _ ∙ omega arith
 
 chain-bits : (chain : List ℕ) → bitsIn (chainWritten chain) ≡ 4 + 5 * length chain
 unfolding chainWritten
-chain-bits chain = one-more 4 (length chain) _ ∙ ap (λ n. 4 + n) (steps-bits chain)
+chain-bits chain = bits-more 4 (length chain) _ ∙ ap (λ n. 4 + n) (steps-bits chain)
 
 -- n of them, of at most so many bits each
 each-bits : {A : Type 0} (f : A → List Field) (g : ℕ → A) (most n : ℕ) → ((k : ℕ) → k < n → bitsIn (f (g k)) ≤ most)
     → bitsIn (eachOf (eachBelow n (λ k. g k ∷ [])) f) ≤ most * n
 unfolding eachBelow eachOf
-each-bits f g most zero each = omega (arith, none)
+each-bits f g most zero each = omega (arith, bits-none)
 each-bits f g most (suc n) each =
     let before = eachBelow n (λ k. g k ∷ []) in
     let fewer = each-bits f g most n (λ k below. each k (omega arith)) in
     omega (
       arith,
       ap bitsIn (each-of-append f before (g n ∷ [])),
-      bits-in-parts (eachOf before f) (f (g n) ++ []),
-      bits-in-parts (f (g n)) [],
-      none,
+      bits-both (eachOf before f) (f (g n) ++ []),
+      bits-both (f (g n)) [],
+      bits-none,
       each n (omega arith),
     )
 
@@ -86,9 +77,9 @@ module _ (whole : Whole) (meets : MeetsRules whole) where
       omega (
         arith,
         head-bits (headOf (whole .table)),
-        bits-in-parts (heads ++ tasks ++ labels) chains,
-        bits-in-parts (heads ++ tasks) labels,
-        bits-in-parts heads tasks,
+        bits-both (heads ++ tasks ++ labels) chains,
+        bits-both (heads ++ tasks) labels,
+        bits-both heads tasks,
         meets .tasks,
         meets .labels,
         meets .chains,

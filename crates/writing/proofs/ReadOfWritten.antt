@@ -19,9 +19,10 @@ use Rattle.table.specs.declared.Table.{Table}
 use Rattle.writing.specs.Written.{headWritten, taskWritten, labelWritten, chainWritten}
 use Rattle.writing.specs.Written.{headOf, tasksOf, labelsOf, chainsOf, imageFields, imageOf, usedOf}
 use Rattle.taking.proofs.FillRead.{packed-fill}
-use Rattle.taking.proofs.HeldRead.{Reads, row-reads, held-parts, bits-in-parts}
+use Rattle.taking.proofs.HeldRead.{Reads, row-reads, held-parts}
 use Rattle.writing.proofs.PartsRead.{head-reads, task-reads, label-reads, chain-reads}
 use Rattle.writing.proofs.UsedEntries.{used-chain, used-hyperperiod}
+use Rattle.bits.proofs.HowMany.{bits-both}
 
 -- one entry for each number below n, each read
 each-reads : {A : Type 0} (one : Taker A) (f : A → List Field) (g : ℕ → A) (n : ℕ)
@@ -107,9 +108,9 @@ module _ (whole : Whole) (meets : MeetsRules whole) where
       omega (
         arith,
         ap bitsIn row,
-        bits-in-parts heads (tasks ++ (labels ++ chains)),
-        bits-in-parts tasks (labels ++ chains),
-        bits-in-parts labels chains,
+        bits-both heads (tasks ++ (labels ++ chains)),
+        bits-both tasks (labels ++ chains),
+        bits-both labels chains,
       ) in
       rw (of-head, of-tasks, of-labels, of-chains, end, packed-fill 9 (imageFields 1 whole))
 

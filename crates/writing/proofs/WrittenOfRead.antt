@@ -22,10 +22,10 @@ use Rattle.table.specs.Image.{tableOf, fill, allFields, wholeFields, readImage}
 use Rattle.outcomes.proofs.Outcomes.{same-given, gives-no-refusal}
 use Rattle.writing.specs.Written.{headWritten, taskWritten, labelWritten, chainWritten}
 use Rattle.writing.specs.Written.{imageFields, imageOf, usedOf}
-use Rattle.taking.proofs.HeldRead.{bits-in-parts}
 use Rattle.writing.proofs.PartsHeld.{head-holds, task-holds, label-holds, chain-holds, Ends, fill-holds}
 use Rattle.writing.proofs.SameParts.{whole, same-head, same-tasks, same-labels, same-chains}
 use Rattle.taking.proofs.TakenHeld.{Holds, row-holds, then-both}
+use Rattle.bits.proofs.HowMany.{bits-both}
 
 -- an image holds the fields of a table from its first bit on, and then the fill
 pub record Spelt (image : List ℕ) (whole : Whole) : Type 0 where
@@ -57,7 +57,7 @@ then-completes As first rest before of-first of-rest image at given e so-far =
       held = subst (Held image 0) (sym (all-written-append before (more .fields)))
           (held-both image 0 (bitsOfAll before) (bitsOfAll (more .fields)) (so-far .held)
           (subst (λ p. Held image p (bitsOfAll (more .fields))) (place ∙ sym (zero-add _)) (more .held)));
-      place = omega (arith, bits-in-parts before (more .fields));
+      place = omega (arith, bits-both before (more .fields));
     })
 
 fill-completes : (whole : Whole) (before : List Field) → usedOf whole ≡ whole → before ≡ imageFields 1 whole

@@ -1,9 +1,9 @@
--- `capi::reading::liskobran_read` meets its contract. Assumes nothing.
+-- `capi::reading::liskobran_read_slice` meets its contract. Assumes nothing.
 use borrow.Author.Needs.{needs}
 use Rattle.fields.proofs.Steps.{taken, not-taken}
 use Rattle.capi.specs.Said.{readSaid}
-use Rattle.capi.proofs.reading.liskobran_read.Statement.{statement}
-use Rattle.capi.proofs.reading.liskobran_read.Tie as tie
+use Rattle.capi.proofs.reading.liskobran_read_slice.Statement.{statement}
+use Rattle.capi.proofs.reading.liskobran_read_slice.Tie as tie
 
 returns : tie.Need-returns
 unfolding readSaid
@@ -16,8 +16,8 @@ returns-2 c = rw (
   c .number-of .ensures,
 )
 
-pub liskobran-read-spec : {M : Type 1} → statement M
-liskobran-read-spec =
+pub liskobran-read-slice-spec : {M : Type 1} → statement M
+liskobran-read-slice-spec =
     tie.close
     (tie.spec
     (λ c κs. search needs)  -- read-table-requires

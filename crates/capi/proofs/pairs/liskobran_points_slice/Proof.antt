@@ -1,8 +1,8 @@
--- `capi::pairs::liskobran_points` meets its contract. Assumes nothing.
+-- `capi::pairs::liskobran_points_slice` meets its contract. Assumes nothing.
 use borrow.Author.Needs.{needs}
 use Rattle.capi.specs.Said.{pointsSaid}
-use Rattle.capi.proofs.pairs.liskobran_points.Statement.{statement}
-use Rattle.capi.proofs.pairs.liskobran_points.Tie as tie
+use Rattle.capi.proofs.pairs.liskobran_points_slice.Statement.{statement}
+use Rattle.capi.proofs.pairs.liskobran_points_slice.Tie as tie
 
 returns : tie.Need-returns
 unfolding pointsSaid
@@ -16,8 +16,8 @@ returns-2 c = rw (
   c .number-of .ensures,
 )
 
-pub liskobran-points-spec : {M : Type 1} → statement M
-liskobran-points-spec =
+pub liskobran-points-slice-spec : {M : Type 1} → statement M
+liskobran-points-slice-spec =
     tie.close
     (tie.spec
     (λ c κs. search needs)  -- points-requires

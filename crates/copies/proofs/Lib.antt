@@ -1,0 +1,4 @@
+-- Laws of the definitions, for the crates above.
+pub mod Frames
+pub mod ListingBits
+pub mod Turns

@@ -1,0 +1,4 @@
+-- Laws of the crate, for the crates above.
+pub mod NextInRound
+pub mod NextPublishing
+pub mod NextReading
