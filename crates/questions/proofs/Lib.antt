@@ -1,5 +1,6 @@
 -- Laws and theorems of this crate.
 pub mod Asked
 pub mod Determined
+pub mod Given
 pub mod Joined
 pub mod PointsOf

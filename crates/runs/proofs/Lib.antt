@@ -1,5 +1,6 @@
 -- Laws and theorems of this crate.
 pub mod Between
+pub mod ByBytes
 pub mod Controls
 pub mod Copied
 pub mod CopiesSuffice

@@ -1,4 +1,5 @@
 -- Definitions of this crate.
+pub mod BytesPlan
 pub mod Controls
 pub mod Errors
 pub mod FramePlan

@@ -17,13 +17,15 @@
 --   full copying: fullPlan (crates/copies/specs/Plans.antt)
 --   what is compared is every value that any job reads, with its tick, task and label: valuesRead
 -- A copy's core plays no part in what jobs read; it is demand 2 that fixes it. Assumes nothing.
-use Prim.Native.Nat.{ℕ}
+use Prim.Native.Nat.{ℕ, _<_}
 use mathlib.Core.Path.{_≡_}
 use mathlib.Core.Logic.{_≢_}
 use mathlib.Core.List.{List, [], _∷_}
 use Rattle.outcomes.specs.Outcome.{gives}
 use Rattle.table.specs.Image.{Whole, rowsOf, readImage}
 use Rattle.copies.specs.Plans.{listedPlan, fullPlan}
+use Rattle.questions.specs.Questions.{listing}
+use Rattle.runs.specs.BytesPlan.{bytesPlan}
 use Rattle.runs.specs.Controls.{pair, twoReaders, apart, apartImage, tell, talk}
 use Rattle.runs.specs.Errors.{servedByFloor, publishedForOne, valuesReadingFirst, withoutInstant0}
 use Rattle.runs.specs.FramePlan.{listingsPlan}
@@ -33,11 +35,22 @@ use Rattle.runs.proofs.Controls as controls
 use Rattle.runs.proofs.CoresAside as cores
 use Rattle.runs.proofs.Errors as errors
 use Rattle.runs.proofs.NoJobCanTell as runs
+use Rattle.theorems.proofs.HandedOut.{by-bytes-handed-out}
 
 pub no-job-can-tell : (image : List ℕ) (whole : Whole) → readImage image ≡ gives whole
     → (Value : Type 0) (initial : ℕ → Value) (turns : Turns Value) (n : ℕ)
     → valuesRead (listingsPlan (whole .table)) initial turns n ≡ valuesRead (fullPlan (whole .table)) initial turns n
 no-job-can-tell = runs.no-job-can-tell-by-listings
+
+-- The same of the bytes that the listing's question gives for all cores, each in some room: taken out of the bytes again
+-- (crates/listings/specs/FromBytes.antt) and carried out round after round (crates/runs/specs/BytesPlan.antt).
+pub no-job-can-tell-by-bytes : (image : List ℕ) (whole : Whole) → readImage image ≡ gives whole
+    → (bytes : ℕ → List ℕ) (room : ℕ → ℕ)
+    → ((core : ℕ) → core < whole .table .cores → listing image core (room core) ≡ gives (bytes core))
+    → (Value : Type 0) (initial : ℕ → Value) (turns : Turns Value) (n : ℕ)
+    → valuesRead (bytesPlan (whole .table .cores) bytes) initial turns n
+    ≡ valuesRead (fullPlan (whole .table)) initial turns n
+no-job-can-tell-by-bytes = by-bytes-handed-out
 
 -- A copy's core plays no part: where tasks are moved to other cores, the listings make the same copies at the same
 -- ticks.

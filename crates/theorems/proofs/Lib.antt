@@ -2,3 +2,4 @@
 pub mod Demand1
 pub mod Demand2
 pub mod Demand3
+mod HandedOut
