@@ -3,7 +3,9 @@ use Prim.Native.Nat.{ℕ}
 use mathlib.Core.Bool.{Bool, true, false}
 use mathlib.Core.Path.{_≡_, sym}
 use mathlib.Core.List.{List}
-use Rattle.outcomes.specs.Outcome.{Outcome, gives, askedOf}
+use lib.Dec.{leb, ltb}
+use lib.ListN.{length}
+use Rattle.outcomes.specs.Outcome.{Outcome, gives}
 use Rattle.outcomes.proofs.Outcomes.{same-given, gives-no-refusal}
 use Rattle.table.specs.Image.{Whole, readImage}
 use Rattle.copies.specs.Listing.{listingOf}
@@ -20,4 +22,6 @@ pub listing-given : (image : List ℕ) (whole : Whole) (core room : ℕ) (bytes 
 unfolding listing coreListed
 listing-given image whole core room bytes accepted e =
     let asked = rw accepted at e in
-    sym (same-given (past 11 _ (past 12 _ asked)))
+    let known = ltb core (whole .table .cores) in
+    let enough = leb (length (listingOf (whole .table) core)) room in
+    sym (same-given (past 11 enough (past 12 known asked)))
