@@ -1,5 +1,6 @@
 -- Laws of the definitions, for the crates above.
 pub mod All
+pub mod Below
 pub mod Bools
 pub mod Each
 pub mod Last

@@ -1,0 +1,46 @@
+-- `instants::next_reader` meets its contract. The loop's invariant: no task from where the search began up to the one
+-- met is marked. Assumes nothing.
+use Prim.Native.Nat.{ℕ, _-_, _≤_, _<_}
+use mathlib.Core.Path.{_≡_, sym, _∙_}
+use mathlib.Core.Bool.{false}
+use native.Mathlib.Omega.{arith}
+use Rattle.table.specs.Table.{marks}
+use Rattle.instants.proofs.Readers.{Unmarked, is-next, no-next, one-more-unmarked}
+use Rattle.instants.proofs.next_reader.Statement.{statement}
+use Rattle.instants.proofs.next_reader.Tie as tie
+
+abbrev Inv-loop : tie.InvT-loop
+Inv-loop readers from r₀ r = (from ≤ r) × Unmarked readers from r
+
+abbrev μ-loop : tie.MeasureT-loop
+μ-loop readers from r₀ r = 32 - r
+
+loop-holds : tie.Need-loop-holds Inv-loop μ-loop
+loop-holds c = (omega arith, λ j late less. absurd (omega arith))
+
+returns : tie.Need-returns Inv-loop μ-loop
+returns c = is-next _ _ (omega arith) (c .before .before .before .loop .inv .0) (sym (c .before .marked .ensures) ∙ c .if1 .taken) (c .before .before .before .loop .inv .1)
+
+loop-again : tie.Need-loop-again Inv-loop μ-loop
+loop-again c = (
+  omega arith,
+  one-more-unmarked _ _ _ (c .before .before .before .loop .inv .1) (sym (c .before .marked .ensures) ∙ c .if1 .left),
+)
+
+returns-2 : tie.Need-returns-2 Inv-loop μ-loop
+returns-2 c = no-next _ _ (λ j late less. c .before .loop .inv .1 j late (omega arith))
+
+pub next-reader-spec : {M : Type 1} → statement M
+next-reader-spec =
+    tie.close
+    (tie.spec
+    Inv-loop
+    μ-loop
+    loop-holds
+    (λ c. omega arith)  -- cast-marked
+    (λ c κs. omega arith)  -- marked-requires
+    returns
+    (λ c. omega arith)  -- add-r
+    (λ c. omega arith)  -- loop-less
+    loop-again
+    returns-2)
