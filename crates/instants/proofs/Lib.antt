@@ -1,5 +1,3 @@
--- Laws of the definitions.
-pub mod First
-pub mod Counted
-pub mod Masks
-pub mod Readers
+-- Laws of this crate.
+pub mod HowMany
+pub mod OfTable

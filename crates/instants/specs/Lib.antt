@@ -1,2 +1,2 @@
 -- Definitions of this crate.
-pub mod Readers
+pub mod Due

@@ -1,6 +1,6 @@
--- Readers fields as masks of 32 bits: `and` and `or` task by task, and one task's own mask. No contract cites this file.
--- Assumes nothing.
-use Prim.Native.Nat.{ℕ, zero, suc, _+_, _-_, _/_, _%_, _^_, _<_, _≤_, min, max}
+-- Readers fields as masks of 32 bits: `and` and `or` task by task, and one task's own mask. No contract cites this
+-- file. Assumes nothing.
+use Prim.Native.Nat.{ℕ, zero, suc, _+_, _-_, _/_, _%_, _^_, _<_, min, max}
 use mathlib.Core.Path.{_≡_, refl, sym, ap, _∙_}
 use mathlib.Core.Logic.{by-cases}
 use mathlib.Core.Bool.{Bool, true, false, _&&_, _||_}
@@ -10,7 +10,7 @@ use native.Mathlib.Omega.{arith}
 use borrow.Author.Tests.{eq-eqb, ne-eqb, lt-ltb, le-ltb, eqb-true}
 use lib.Dec.{eqb, ltb, lit<}
 use lib.Arith.{digits-mod}
-use lib.Bits.{bitAnd, bitOr, and-shr, and-step, or-shr, or-step, shifted-even}
+use lib.Bits.{bitAnd, bitOr, and-shr, and-step, or-shr, or-step}
 use lib.Pow.{pow-add, pow-lt, pow-pos, shl-shr}
 use Rattle.lists.proofs.Bools.{same-test}
 use Rattle.table.specs.Table.{marks}

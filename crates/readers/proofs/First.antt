@@ -2,13 +2,11 @@
 -- nothing.
 use Prim.Native.Nat.{ℕ, zero, suc, _<_, _≤_}
 use mathlib.Core.Path.{_≡_, refl}
-use mathlib.Core.Logic.{by-cases}
 use mathlib.Core.Bool.{Bool, true, false, cond}
 use native.Mathlib.Nat.{le-of-suc-le-suc, not-suc-le-zero}
-use native.Mathlib.Decide.{decLt}
 use native.Mathlib.Omega.{arith}
 use Rattle.lists.proofs.Bools.{not-both}
-use Rattle.instants.specs.Readers.{firstBelow}
+use Rattle.readers.specs.NextReader.{firstBelow}
 
 -- a number up to the bound, before which none passes the test, and which passes it where it is below the bound
 pub record First (n : ℕ) (test : ℕ → Bool) (k : ℕ) : Type 0 where

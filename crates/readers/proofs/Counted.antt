@@ -1,14 +1,13 @@
 -- How many tasks a mask of 32 bits marks: as many as it has bits that are 1, and none where it is 0. No contract cites
 -- this file. Assumes nothing.
-use Prim.Native.Nat.{ℕ, zero, suc, _+_, _-_, _/_, _%_, _^_, _<_, _≤_}
+use Prim.Native.Nat.{ℕ, zero, suc, _+_, _-_, _/_, _%_, _^_, _<_}
 use mathlib.Core.Path.{_≡_, refl, sym, ap, ap₂, _∙_}
-use mathlib.Core.Bool.{Bool, true, false, not, _&&_, _||_}
-use mathlib.Core.List.{List, _++_}
+use mathlib.Core.Bool.{Bool, not, _&&_, _||_}
 use native.Mathlib.Nat.{mod-lt, add-comm, div-one}
 use native.Mathlib.Omega.{arith}
 use native.Mathlib.Numerals.{add-one}
 use borrow.Author.Tests.{lt-ltb, ne-eqb}
-use lib.Dec.{eqb, ltb, lit<}
+use lib.Dec.{eqb, lit<}
 use lib.Arith.{lt-one}
 use lib.Bits.{bitAnd, and-lt}
 use lib.Count.{ones, ones-step}
@@ -18,7 +17,7 @@ use Rattle.lists.specs.Lists.{someBelow, eachBelow, onlyIf}
 use Rattle.lists.proofs.Lists.{someBelow-same}
 use Rattle.lists.proofs.Below.{each-below-same}
 use Rattle.table.specs.Table.{marks}
-use Rattle.instants.proofs.Masks.{and-marks}
+use Rattle.readers.proofs.Masks.{and-marks}
 
 -- bit r of a mask of n bits is 1, counted from the most significant one
 abbrev bit-set : (n mask r : ℕ) → Bool

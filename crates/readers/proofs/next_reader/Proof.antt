@@ -1,13 +1,11 @@
--- `instants::next_reader` meets its contract. The loop's invariant: no task from where the search began up to the one
+-- `readers::next_reader` meets its contract. The loop's invariant: no task from where the search began up to the one
 -- met is marked. Assumes nothing.
-use Prim.Native.Nat.{ℕ, _-_, _≤_, _<_}
-use mathlib.Core.Path.{_≡_, sym, _∙_}
-use mathlib.Core.Bool.{false}
+use Prim.Native.Nat.{_-_, _≤_}
+use mathlib.Core.Path.{sym, _∙_}
 use native.Mathlib.Omega.{arith}
-use Rattle.table.specs.Table.{marks}
-use Rattle.instants.proofs.Readers.{Unmarked, is-next, no-next, one-more-unmarked}
-use Rattle.instants.proofs.next_reader.Statement.{statement}
-use Rattle.instants.proofs.next_reader.Tie as tie
+use Rattle.readers.proofs.Walk.{Unmarked, is-next, no-next, one-more-unmarked}
+use Rattle.readers.proofs.next_reader.Statement.{statement}
+use Rattle.readers.proofs.next_reader.Tie as tie
 
 abbrev Inv-loop : tie.InvT-loop
 Inv-loop readers from r₀ r = (from ≤ r) × Unmarked readers from r
@@ -19,7 +17,9 @@ loop-holds : tie.Need-loop-holds Inv-loop μ-loop
 loop-holds c = (omega arith, λ j late less. absurd (omega arith))
 
 returns : tie.Need-returns Inv-loop μ-loop
-returns c = is-next _ _ (omega arith) (c .before .before .before .loop .inv .0) (sym (c .before .marked .ensures) ∙ c .if1 .taken) (c .before .before .before .loop .inv .1)
+returns c =
+    let inv = c .before .before .before .loop .inv in
+    is-next _ _ (omega arith) (inv .0) (sym (c .before .marked .ensures) ∙ c .if1 .taken) (inv .1)
 
 loop-again : tie.Need-loop-again Inv-loop μ-loop
 loop-again c = (
