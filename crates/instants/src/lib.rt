@@ -6,7 +6,7 @@ ghost use lib.ListN.{length};
 ghost use Rattle.instants.specs.Due.{writeDue, readsDue, copiesDue};
 
 // How many labels the arrays hold.
-fn held(labels: usize) -> usize
+pub fn held(labels: usize) -> usize
     ensures { λ r. ⌜ r ≡ min labels 64 ⌝ }
 {
     if labels < 64 { labels } else { 64 }

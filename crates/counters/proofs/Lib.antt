@@ -1,0 +1,2 @@
+-- Laws of the definitions.
+pub mod Turn

@@ -1,0 +1,69 @@
+-- The pairs of one writer, met by going from one reader to the next. Assumes nothing.
+use Prim.Native.Nat.{ℕ, _+_, _≤_}
+use mathlib.Core.Path.{_≡_, refl, ap, _∙_}
+use mathlib.Core.Bool.{Bool, true}
+use mathlib.Core.List.{List, [], _∷_, _++_, append-nil}
+use native.Mathlib.Numerals.{add-one}
+use borrow.Author.Tests.{eq-eqb, ne-eqb}
+use lib.ListN.{getD}
+use Rattle.lists.specs.Lists.{eachBelow, eachOf}
+use Rattle.lists.proofs.Each.{each-of-append}
+use Rattle.table.specs.Table.{marks}
+use Rattle.readers.specs.NextReader.{nextReader}
+use Rattle.readers.proofs.Walk.{met, walk-on, walk-meets}
+use Rattle.gathering.specs.Pairs.{codeOf, ownTask, pairCounted, tasksIn, pairsWith, pairsOf}
+
+module _ (reads : Bool) (core : ℕ) (cores : List ℕ) (w : ℕ) where
+  -- one pair
+  pub pair-on : (r own : ℕ) → own ≡ ownTask reads w r → getD cores own 0 ≡ core
+      → pairCounted reads core cores w r ≡ codeOf w r ∷ []
+  unfolding pairCounted
+  pair-on r own e on = rw (← e, eq-eqb _ _ on)
+
+  pub pair-off : (r own : ℕ) → own ≡ ownTask reads w r → ¬ (getD cores own 0 ≡ core)
+      → pairCounted reads core cores w r ≡ []
+  unfolding pairCounted
+  pair-off r own e off = rw (← e, ne-eqb _ _ off)
+
+  -- the pairs with the tasks of a mask below a bound
+  abbrev pub pairsMet : (mask from : ℕ) → List ℕ
+  pairsMet mask from = eachOf (met mask (λ r. r) from) (pairCounted reads core cores w)
+
+  pub none-met : (mask : ℕ) → pairsMet mask 0 ≡ []
+  unfolding eachBelow eachOf
+  none-met mask = refl
+
+  -- up to the next reader there is none to meet
+  pub on-met : (mask from : ℕ) → from ≤ 32 → pairsMet mask (nextReader mask from) ≡ pairsMet mask from
+  on-met mask from few = ap (λ tasks. eachOf tasks (pairCounted reads core cores w)) (walk-on mask (λ r. r) from few)
+
+  -- and a reader is met
+  pub more-met : (mask r : ℕ) → marks mask r ≡ true
+      → pairsMet mask (r + 1) ≡ pairsMet mask r ++ pairCounted reads core cores w r
+  unfolding eachOf
+  more-met mask r marked =
+      ap (λ tasks. eachOf tasks (pairCounted reads core cores w)) (walk-meets mask (λ r. r) r marked)
+      ∙ each-of-append (pairCounted reads core cores w) (met mask (λ r. r) r) (r ∷ [])
+      ∙ ap (λ l. pairsMet mask r ++ l) (append-nil (pairCounted reads core cores w r))
+
+  pub all-met : (mask : ℕ) → pairsMet mask 32 ≡ pairsWith reads core cores w mask
+  unfolding pairsWith tasksIn
+  all-met mask = refl
+
+-- the pairs of the first writers
+module _ (reads : Bool) (core : ℕ) (cores joined : List ℕ) where
+  abbrev pub pairsBelow : ℕ → List ℕ
+  pairsBelow n = eachBelow n (λ w. pairsWith reads core cores w (getD joined w 0))
+
+  pub no-writer : pairsBelow 0 ≡ []
+  unfolding eachBelow
+  no-writer = refl
+
+  pub one-writer-more : (w : ℕ)
+      → pairsBelow (w + 1) ≡ pairsBelow w ++ pairsWith reads core cores w (getD joined w 0)
+  unfolding eachBelow
+  one-writer-more w = rw add-one
+
+  pub all-writers : pairsBelow 32 ≡ pairsOf reads core cores joined
+  unfolding pairsOf
+  all-writers = refl

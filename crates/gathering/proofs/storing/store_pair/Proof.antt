@@ -1,0 +1,36 @@
+-- `gathering::storing::store_pair` meets its contract. Assumes nothing.
+use native.Mathlib.Omega.{arith}
+use borrow.Author.Needs.{needs}
+use Rattle.gathering.proofs.InArray.{adds-none, adds-one}
+use Rattle.gathering.proofs.Walk.{pair-on, pair-off}
+use Rattle.gathering.proofs.storing.store_pair.Statement.{statement}
+use Rattle.gathering.proofs.storing.store_pair.Tie as tie
+
+returns : tie.Need-returns
+returns c =
+    let args = c .before .before .before .before .args in
+    let on = pair-on (args .reads) (args .core) (args .cores .now) (args .w) (args .r) _
+    (c .before .before .before .own-task .ensures .0) (c .before .if1 .taken) in
+    (rw (on, c .first-counter .ensures) (adds-one _ _ _ _), omega arith)
+
+returns-2 : tie.Need-returns-2
+returns-2 c =
+    let args = c .before .before .before .args in
+    let off = pair-off (args .reads) (args .core) (args .cores .now) (args .w) (args .r) _
+    (c .before .before .own-task .ensures .0) (c .if1 .left) in
+    (rw off (adds-none _ _ _), omega arith)
+
+pub store-pair-spec : {M : Type 1} → statement M
+store-pair-spec =
+    tie.close
+    (tie.spec
+    (λ c κs. search needs)  -- own-task-requires
+    (λ c. search needs)  -- cast-own
+    (λ c. search needs)  -- mul-if1
+    (λ c. search needs)  -- element-copy-out-if1
+    (λ c κs. search needs)  -- first-counter-requires
+    (λ c. search needs)  -- mul-counters
+    (λ c. search needs)  -- element-write-counters
+    (λ c. search needs)  -- add-result
+    returns
+    returns-2)
