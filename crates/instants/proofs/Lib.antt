@@ -1,3 +1,6 @@
 -- Laws of this crate.
 pub mod HowMany
+pub mod LabelsPut
 pub mod OfTable
+pub mod Putting
+pub mod ReadersPut
