@@ -1,3 +1,4 @@
 -- Laws of this crate.
 pub mod HowMany
+pub mod NothingDue
 pub mod OfTable
