@@ -60,10 +60,10 @@ module _ (whole : Whole) (meets : MeetsRules whole) (core : ℕ) where
   copies-fit t =
       all-append CopyFits (writesAt (whole .table) core t) (readsAt (whole .table) core t)
       (all-each-below CopyFits (whole .table .labels) _ (λ l known.
-      all-only-if CopyFits (writing (whole .table) core t l) _ (write-fits l known)))
+      all-only-if CopyFits (writing (whole .table) core t l) _ (λ due. write-fits l known)))
       (all-each-below CopyFits (whole .table .labels) _ (λ l known.
       all-each-below CopyFits (whole .table .tasks) _ (λ r there.
-      all-only-if CopyFits (reading (whole .table) core t l r) _ (read-fits l r known there))))
+      all-only-if CopyFits (reading (whole .table) core t l r) _ (λ due. read-fits l r known there))))
 
   -- at most 64 writes and 64 times 32 reads
   few-copies : (t : ℕ) → length (copiesAt (whole .table) core t) < 2 ^ 12

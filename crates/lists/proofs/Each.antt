@@ -28,6 +28,15 @@ length-each-below most (suc n) adds each =
     let fewer = length-each-below most n adds (λ k below. each k (omega arith)) in
     omega (arith, length-append (eachBelow n adds) (adds n), each n (omega arith))
 
+-- how much the entries of a list add, each at most so much
+pub length-each-of : {A B : Type 0} (most : ℕ) (xs : List A) (adds : A → List B)
+    → ((x : A) → length (adds x) ≤ most) → length (eachOf xs adds) ≤ most * length xs
+unfolding eachOf
+length-each-of most [] adds each = omega arith
+length-each-of most (x ∷ xs) adds each =
+    let fewer = length-each-of most xs adds each in
+    omega (arith, length-append (adds x) (eachOf xs adds), each x)
+
 pub length-only-if : {A : Type 0} (test : Bool) (x : A) → length (onlyIf test x) ≤ 1
 length-only-if true x = omega arith
 length-only-if false x = omega arith

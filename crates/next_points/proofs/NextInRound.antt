@@ -1,12 +1,8 @@
 -- The next points round after round, modulo a round H that both periods divide: what counts at a tick, as document 01
--- says of copies, is found next by the same functions. There is one next tick at the most. Assumes nothing.
+-- says of copies, is found next by the same functions. Assumes nothing.
 use Prim.Native.Nat.{ℕ, suc, _<_, _∣_}
 use mathlib.Core.Path.{_≡_, _∙_}
 use mathlib.Core.Bool.{Bool, true}
-use mathlib.Core.Logic.{by-cases}
-use native.Mathlib.Decide.{decLt}
-use native.Mathlib.Omega.{arith}
-use Rattle.lists.proofs.Bools.{not-both}
 use Rattle.times.specs.Releases.{Timing}
 use Rattle.times.specs.Points.{publishesAt, servesAt}
 use Rattle.times.proofs.PointsInRound.{publishesAt-test, servesAt-test}
@@ -14,15 +10,6 @@ use Rattle.times.proofs.PointsCover.{publishesAt-released, servesAt-released}
 use Rattle.next_points.specs.Next.{NextFrom, nextPublishing, nextReading, publishingAfter, readingAfter}
 use Rattle.next_points.proofs.NextPublishing.{publishing-next, publishing-after}
 use Rattle.next_points.proofs.NextReading.{reading-next, reading-after}
-
--- two that are next are the same
-pub next-determined : (test : ℕ → Bool) (t a b : ℕ) → NextFrom test t a → NextFrom test t b → a ≡ b
-next-determined test t a b of-a of-b =
-    by-cases (decLt a b)
-    (λ less. absurd (not-both (test a) (of-a .passes) (of-b .none-earlier a (of-a .from-start) less)))
-    (λ not-less. by-cases (decLt b a)
-    (λ less. absurd (not-both (test b) (of-b .passes) (of-a .none-earlier b (of-b .from-start) less)))
-    (λ not-more. omega arith))
 
 -- a test that says the same has the same next
 next-alike : (test other : ℕ → Bool) → ((u : ℕ) → test u ≡ other u) → (t n : ℕ) → NextFrom other t n → NextFrom test t n

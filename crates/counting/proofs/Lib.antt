@@ -1,0 +1,10 @@
+-- Laws of the counters, for the crates above.
+pub mod Between
+pub mod DueMasks
+pub mod Least
+pub mod Marks
+pub mod OfTable
+pub mod OnePair
+pub mod PointKinds
+pub mod Start
+pub mod Steps
