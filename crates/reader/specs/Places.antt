@@ -2,6 +2,6 @@
 -- Assumes nothing.
 use Prim.Native.Nat.{ℕ, _+_, _-_, _^_, min}
 
--- the bit after a field of a width that starts at bit `at`; the last bit that a place can name, where it lies past that
+-- the bit after a field of a width that starts at bit `at`; the greatest number of 64 bits, where it lies past that
 abbrev pub placeAfter : ℕ → ℕ → ℕ
 placeAfter at width = min (at + width) (2 ^ 64 - 1)

@@ -1,12 +1,12 @@
-// A reader of fields (document 01, Table image): "Fields are packed without gaps, most significant bit first." It holds
-// the image and the bit at which it stands. Thin functions take it apart and leave the work to `bits`; whoever has an
-// image and a place calls `next_field`.
+// A reader of fields (document 01, Table image): "Fields are packed without gaps, most significant bit first." Thin
+// functions take it apart and leave the work to `bits`; whoever has an image and a place calls `next_field`.
 ghost use mathlib.Core.Path.{_≡_};
 ghost use Prim.Native.Nat.{min};
 ghost use Rattle.bits.specs.Found.{foundAt, saidOfFound};
 ghost use Rattle.reader.specs.Places.{placeAfter};
 use bits::Found;
 
+// The image, and the bit at which the reader stands.
 pub struct FieldReader<'a> {
     pub image: &'a [u8],
     pub at: usize,
@@ -26,7 +26,7 @@ pub fn place<'a>(reader: FieldReader<'a>) -> usize
     reader.at
 }
 
-// The next field, of `width` bits.
+// The next field, of `width` bits. A width above 32 is taken for 32, here and below.
 pub fn next<'a>(reader: FieldReader<'a>, width: usize) -> Found
     ensures { λ r. ⌜ saidOfFound (reader .entry .at) r
         ≡ foundAt (now (reader .entry .image)) (reader .entry .at) (min width 32) ⌝ }
@@ -34,7 +34,7 @@ pub fn next<'a>(reader: FieldReader<'a>, width: usize) -> Found
     bits::field_at(reader.image, reader.at, width)
 }
 
-// The place after a field of `width` bits at bit `at`.
+// The place after a field of `width` bits at bit `at`; the greatest number, where it lies past that.
 fn after(at: usize, width: usize) -> usize
     ensures { λ r. ⌜ r ≡ placeAfter at (min width 32) ⌝ }
 {
