@@ -27,15 +27,18 @@ module _ (table : Table) (right : Right table) (core : ℕ) where
   pub few-frames : length (framesOf table core) ≤ hyperperiodOf table
   few-frames = rw (← frames-all table core) (frames-few table core (hyperperiodOf table))
 
+  -- no more copies than each tick may have
+  pub few-copied : copiesIn (framesOf table core) ≤ 4095 * hyperperiodOf table
+  few-copied =
+      rw (← frames-all table core) (copies-few table core 4095
+      (λ u. omega (arith, few-copies (record { table = table; rows = right .rows }) (right .meets) core u))
+      (hyperperiodOf table))
+
   -- the bits of a listing can be counted
   countable : Countable (bitsOfAll (listingFields (coreListing table core)))
   countable =
       let round = right .meets .hyperperiod in
-      let copies : copiesIn (framesOf table core) ≤ 4095 * hyperperiodOf table =
-      rw (← frames-all table core) (copies-few table core 4095
-      (λ u. omega (arith, few-copies (record { table = table; rows = right .rows }) (right .meets) core u))
-      (hyperperiodOf table)) in
-      omega (arith, listing-bits (coreListing table core), few-frames, copies, round)
+      omega (arith, listing-bits (coreListing table core), few-frames, few-copied, round)
 
   -- head and frames put from the first bit on, and ended
   pub listing-ended : {held first bytes after : List ℕ} {head pen : Pen} {round frames count : ℕ}

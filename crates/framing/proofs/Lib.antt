@@ -1,3 +1,3 @@
 -- Laws of this crate.
 mod PutFrames
-mod Ended
+pub mod Ended

@@ -13,6 +13,9 @@ use Rattle.table.specs.declared.Refusal.{Refusal}
 use Rattle.table.specs.declared.Table.{Table}
 use Rattle.images.specs.declared.TableRead.{TableRead}
 use Rattle.outcomes.proofs.Outcomes.{refusal-handed-on, something-given}
+use Rattle.table.proofs.Accepted.{accepted-sound}
+use Rattle.table.proofs.MeetsRules.{accepted-meets-rules}
+use Rattle.frames.specs.Counts.{Right}
 
 module _ (image : List ℕ) (read : TableRead) (shown : TableShown image read) where
   -- the image is refused
@@ -30,3 +33,15 @@ module _ (image : List ℕ) (read : TableRead) (shown : TableShown image read) w
   accepted-image told question =
       let (whole, given) = something-given (readImage image) (sym (shown .answer) ∙ ap saidOfImage told) in
       rw given (ap question (sym (shown .table ∙ ap (λ outcome. acceptedOr nothing outcome .table) given)))
+
+  -- an accepted table is right
+  pub accepted-right : read .answer ≡ Accepted → Right (read .table)
+  unfolding answerOf shownOf acceptedOr
+  accepted-right told =
+      let (whole, given) = something-given (readImage image) (sym (shown .answer) ∙ ap saidOfImage told) in
+      let is : read .table ≡ whole .table = shown .table ∙ ap (λ outcome. acceptedOr nothing outcome .table) given in
+      rw is (record {
+        rows = whole .rows;
+        meets = accepted-meets-rules image whole given;
+        sound = accepted-sound image whole given;
+      })

@@ -1,11 +1,14 @@
 // The three questions asked of a table image, and what answers them (document 01, What the generator covers: "Each
 // question is asked of the table image itself"). What each answer says: specs/.
 ghost use mathlib.Core.Path.{_≡_};
-ghost use Rattle.questions.specs.Answers.{saidOfPoints};
-ghost use Rattle.questions.specs.Questions.{points};
+ghost use lib.ListN.{length};
+ghost use Rattle.questions.specs.Answers.{saidOfListing, saidOfPoints};
+ghost use Rattle.questions.specs.Questions.{bytesListed, lentAfter, listing, points};
 
+mod cores;
 mod pairs;
 
+use cores::core_listed;
 use pairs::points_of;
 use table::Answer;
 use table::Refusal;
@@ -49,4 +52,21 @@ pub fn points(image: &[u8], writer: u64, reader: u64, n: u64) -> PointsAnswer
         return points_of(table, writer, reader, n);
     };
     PointsAnswer::Refused { refusal, place }
+}
+
+// The copy listing of a core, asked of any bytes, any number and any buffer. The image's own refusal is handed on; a
+// refusal leaves the buffer as it was, and a listing the bytes after it.
+pub fn listing(image: &[u8], core: u64, buffer: &mut [u8]) -> ListingAnswer
+    ensures said { λ r. ⌜ saidOfListing r
+        ≡ bytesListed (listing (now (image .entry)) core (length (now (buffer .entry)))) ⌝ }
+    ensures lent { λ r. ⌜ now (buffer .exit)
+        ≡ lentAfter (listing (now (image .entry)) core (length (now (buffer .entry)))) (now (buffer .entry)) ⌝ }
+{
+    let read = images::read_table(image);
+    let answer = read.answer;
+    let Answer::Refused { refusal, place } = answer else {
+        let table = read.table;
+        return core_listed(table, core, buffer);
+    };
+    ListingAnswer::Refused { refusal, place }
 }
