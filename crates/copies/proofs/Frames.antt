@@ -1,14 +1,14 @@
 -- The frames of a core, tick after tick: one more tick, ticks without a copy, and how many frames and copies there are.
 -- Assumes nothing.
-use Prim.Native.Nat.{ℕ, zero, suc, _+_, _<_, _≤_}
-use mathlib.Core.Path.{_≡_, refl, ap, _∙_}
+use Prim.Native.Nat.{ℕ, zero, suc, _+_, _*_, _<_, _≤_}
+use mathlib.Core.Path.{_≡_, refl, sym, ap, _∙_}
 use mathlib.Core.List.{List, [], _∷_, _++_, append-nil}
 use native.Mathlib.Nat.{le-dest, add-zero, add-suc}
 use native.Mathlib.Numerals.{add-one}
 use native.Mathlib.Omega.{arith}
 use lib.ListN.{length, length-append}
 use Rattle.lists.specs.Lists.{eachBelow, eachOf}
-use Rattle.lists.proofs.Each.{each-of-append}
+use Rattle.lists.proofs.Each.{each-of-append, length-each-below}
 use Rattle.table.specs.Table.{hyperperiodOf}
 use Rattle.table.specs.declared.Table.{Table}
 use Rattle.copies.specs.Copies.{Copy, Frame, copiesAt, framesAt, framesOf}
@@ -27,6 +27,12 @@ frame-copies : (t : ℕ) (copies : List Copy) → copiesIn (framesAt t copies) �
 unfolding framesAt eachOf
 frame-copies t [] = refl
 frame-copies t (copy ∷ more) = ap length (append-nil (copy ∷ more))
+
+-- an instant has one frame at most
+at-most-one : (t : ℕ) (copies : List Copy) → length (framesAt t copies) ≤ 1
+unfolding framesAt
+at-most-one t [] = omega arith
+at-most-one t (copy ∷ more) = omega arith
 
 -- a gap adds nothing
 gap : {A : Type 0} (adds : ℕ → List A) (a d : ℕ) → ((u : ℕ) → a ≤ u → u < a + d → adds u ≡ [])
@@ -80,3 +86,19 @@ module _ (table : Table) (core : ℕ) where
       → framesBefore (t + 1) ≡ framesBefore t ++ record { start = t; copies = copiesAt table core t } ∷ []
   unfolding framesAt
   frame-more t copy more some = frames-more t ∙ rw some
+
+  -- no more frames than ticks, and no more copies than each tick may have
+  pub frames-few : (t : ℕ) → length (framesBefore t) ≤ t
+  frames-few t =
+      omega (arith, length-each-below 1 t (λ u. framesAt u (copiesAt table core u))
+      (λ u below. at-most-one u (copiesAt table core u)))
+
+  pub copies-few : (most : ℕ) → ((u : ℕ) → length (copiesAt table core u) ≤ most) → (t : ℕ)
+      → copiesIn (framesBefore t) ≤ most * t
+  unfolding eachBelow eachOf
+  copies-few most each zero = omega arith
+  copies-few most each (suc t) =
+      let more = copies-more t in
+      let one : copiesIn (framesBefore (suc t)) ≡ copiesIn (framesBefore (t + 1)) =
+      ap (λ u. copiesIn (framesBefore u)) (sym (add-one t)) in
+      omega (arith, copies-few most each t, each t)

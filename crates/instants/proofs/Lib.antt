@@ -1,4 +1,7 @@
 -- Laws of this crate.
 pub mod HowMany
+pub mod LabelsPut
 pub mod NothingDue
 pub mod OfTable
+pub mod Putting
+pub mod ReadersPut

@@ -4,6 +4,13 @@ ghost use mathlib.Core.Path.{_≡_};
 ghost use Prim.Native.Nat.{ℕ, _+_, min};
 ghost use lib.ListN.{length};
 ghost use Rattle.instants.specs.Due.{writeDue, readsDue, copiesDue};
+ghost use Rattle.instants.specs.Puts.{PutsCopies};
+
+mod puts;
+
+use packing::Pen;
+use puts::write_reads;
+use puts::write_writes;
 
 // How many labels the arrays hold.
 pub fn held(labels: usize) -> usize
@@ -43,4 +50,23 @@ pub fn count_copies(
         l += 1;
     }
     copies
+}
+
+// The copies of an instant, put into lent bytes: the writes, then the reads.
+pub fn write_copies(
+    bytes: &mut [u8],
+    pen: Pen,
+    labels: usize,
+    writer: &[u32; 64],
+    readers: &[u32; 64],
+    publishes: &[u32; 32],
+    serves: &[u32; 32],
+) -> Pen
+    ensures { λ r. ⌜ PutsCopies (now (bytes .entry)) (now (bytes .exit)) pen r
+        (copiesDue labels (now (writer .entry)) (now (readers .entry)) (now (publishes .entry))
+        (now (serves .entry))) ⌝ }
+{
+    let count = held(labels);
+    let written = write_writes(bytes, pen, count, writer, readers, publishes);
+    write_reads(bytes, written, count, writer, readers, serves)
 }
