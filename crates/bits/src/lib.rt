@@ -33,13 +33,14 @@ fn bytes_at(bytes: &[u8], from: usize, count: usize) -> u64
     number
 }
 
-fn capped(width: usize) -> usize
+// A field is at most 32 bits wide: a greater width is taken for 32.
+pub fn capped(width: usize) -> usize
     ensures { λ r. ⌜ r ≡ min width 32 ⌝ }
 {
     if width < 32 { width } else { 32 }
 }
 
-// The field of `width` bits from bit `at`. A field is at most 32 bits wide: a greater width is taken for 32.
+// The field of `width` bits from bit `at`.
 pub fn field_at(bytes: &[u8], at: usize, width: usize) -> Found
     ensures { λ r. ⌜ saidOfFound at r ≡ foundAt (now (bytes .entry)) at (min width 32) ⌝ }
 {

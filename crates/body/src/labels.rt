@@ -39,7 +39,7 @@ fn read_label(image: &[u8], at: usize, tasks: u32) -> LabelRead
             readers: 0,
         };
     };
-    let found = bits::field_at(image, at + 5, 32);
+    let found = reader::next_field(image, at + 5, 32);
     let Found::Value(readers) = found else {
         return LabelRead {
             answer: Answer::Refused {

@@ -90,8 +90,11 @@ module _ (table : Table) (core : ℕ) where
   -- no more frames than ticks, and no more copies than each tick may have
   pub frames-few : (t : ℕ) → length (framesBefore t) ≤ t
   frames-few t =
-      omega (arith, length-each-below 1 t (λ u. framesAt u (copiesAt table core u))
-      (λ u below. at-most-one u (copiesAt table core u)))
+      omega (
+        arith,
+        length-each-below 1 t (λ u. framesAt u (copiesAt table core u))
+            (λ u below. at-most-one u (copiesAt table core u)),
+      )
 
   pub copies-few : (most : ℕ) → ((u : ℕ) → length (copiesAt table core u) ≤ most) → (t : ℕ)
       → copiesIn (framesBefore t) ≤ most * t

@@ -29,7 +29,7 @@ pub fn ranged(
         (field (min width 32) (numberOf refusal) (inRange least bound) (now (image .entry)) at)
         (at + min width 32) r ⌝ }
 {
-    let found = bits::field_at(image, at, width);
+    let found = reader::next_field(image, at, width);
     let Found::Value(value) = found else {
         return Got {
             answer: Answer::Refused {

@@ -66,7 +66,7 @@ module _ (whole : Whole) (meets : MeetsRules whole) (core : ℕ) where
       all-only-if CopyFits (reading (whole .table) core t l r) _ (λ due. read-fits l r known there))))
 
   -- at most 64 writes and 64 times 32 reads
-  few-copies : (t : ℕ) → length (copiesAt (whole .table) core t) < 2 ^ 12
+  pub few-copies : (t : ℕ) → length (copiesAt (whole .table) core t) < 2 ^ 12
   unfolding copiesAt writesAt readsAt
   few-copies t =
       let labels = meets .labels in

@@ -71,3 +71,10 @@ unfolding over
 over-appended [] held few = refl
 over-appended (x ∷ entries) [] few = absurd (not-suc-le-zero few)
 over-appended (x ∷ entries) (first ∷ held) few = ap (λ l. x ∷ l) (over-appended entries held (le-of-suc-le-suc few))
+
+-- the list stays as long as it was
+pub length-over : {A : Type 0} (entries held : List A) → length (over entries held) ≡ length held
+unfolding over
+length-over [] held = refl
+length-over (x ∷ entries) [] = refl
+length-over (x ∷ entries) (first ∷ held) = ap suc (length-over entries held)

@@ -8,31 +8,32 @@ use Rattle.fields.proofs.ranged.Statement.{statement}
 use Rattle.fields.proofs.ranged.Tie as tie
 
 returns : tie.Need-returns
-returns c = got-refused _ _ _ _ (field-ends _ _ _ _ _ _ (c .before .before .field-at .ensures) (c .enum-told .given .1))
+returns c =
+    got-refused _ _ _ _ (field-ends _ _ _ _ _ _ (c .before .before .next-field .ensures) (c .enum-told .given .1))
 
 returns-2 : tie.Need-returns-2
 returns-2 c =
-    got-taken _ _ _ (field-right _ _ _ _ _ _ (c .before .before .before .before .before .field-at .ensures)
+    got-taken _ _ _ (field-right _ _ _ _ _ _ (c .before .before .before .before .before .next-field .ensures)
     _ (c .before .before .before .found .given .1)
     (rw (le-leb _ _ (c .before .if1 .taken), lt-ltb _ _ (c .if2 .taken))))
 
 returns-3 : tie.Need-returns-3
 returns-3 c =
-    got-refused _ _ _ _ (field-wrong _ _ _ _ _ _ (c .before .before .before .before .before .field-at .ensures)
+    got-refused _ _ _ _ (field-wrong _ _ _ _ _ _ (c .before .before .before .before .before .next-field .ensures)
     _ (c .before .before .before .found .given .1)
     (rw (le-leb _ _ (c .before .if1 .taken), le-ltb _ _ (c .if2 .left))))
 
 returns-4 : tie.Need-returns-4
 returns-4 c =
     let found = c .before .before in
-    got-refused _ _ _ _ (field-wrong _ _ _ _ _ _ (found .before .before .field-at .ensures) _ (found .found .given .1)
+    got-refused _ _ _ _ (field-wrong _ _ _ _ _ _ (found .before .before .next-field .ensures) _ (found .found .given .1)
     (rw (lt-leb _ _ (c .if1 .left))))
 
 pub ranged-spec : {M : Type 1} → statement M
 ranged-spec =
     tie.close
     (tie.spec
-    (λ c κs. search needs)  -- field-at-requires
+    (λ c κs. search needs)  -- next-field-requires
     (λ c. search needs)  -- enum-known-found
     (λ c. search needs)  -- enum-told
     returns

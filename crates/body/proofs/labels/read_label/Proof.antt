@@ -39,7 +39,7 @@ unfolding labelFields
 returns-2 c =
     rw (
       writer-taken (c .before .before .before),
-      ← field-ends 32 7 _ _ _ _ (c .before .before .field-at .ensures) (c .enum-told3 .given .1),
+      ← field-ends 32 7 _ _ _ _ (c .before .before .next-field .ensures) (c .enum-told3 .given .1),
     )
 
 right-readers-requires : tie.Need-right-readers-requires
@@ -56,7 +56,7 @@ returns-3 c =
     rw (
       next,
       writer-taken (c .before .before .before .before .before .before),
-      ← field-right 32 7 _ _ _ _ (c .before .before .before .before .before .field-at .ensures)
+      ← field-right 32 7 _ _ _ _ (c .before .before .before .before .before .next-field .ensures)
           _ (c .before .before .before .found .given .1)
           (sym (c .before .right-readers .ensures) ∙ c .if1 .taken),
     )
@@ -66,7 +66,7 @@ unfolding labelFields
 returns-4 c =
     rw (
       writer-taken (c .before .before .before .before .before .before),
-      ← field-wrong 32 7 _ _ _ _ (c .before .before .before .before .before .field-at .ensures)
+      ← field-wrong 32 7 _ _ _ _ (c .before .before .before .before .before .next-field .ensures)
           _ (c .before .before .before .found .given .1)
           (sym (c .before .right-readers .ensures) ∙ c .if1 .left),
     )
@@ -80,7 +80,7 @@ read-label-spec =
     (λ c. search needs)  -- enum-told-2
     returns
     (λ c. search needs)  -- add-field-at
-    (λ c κs. search needs)  -- field-at-requires
+    (λ c κs. search needs)  -- next-field-requires
     (λ c. search needs)  -- enum-known-found
     (λ c. search needs)  -- enum-told-3
     (λ c. search needs)  -- add-t11

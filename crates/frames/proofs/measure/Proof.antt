@@ -1,0 +1,37 @@
+-- `frames::measure` meets its contract. Assumes nothing.
+use mathlib.Core.Path.{refl}
+use borrow.Author.Needs.{needs}
+use native.Mathlib.Omega.{arith}
+use Rattle.frames.proofs.Gathered.{few-publishing, few-reading, long-publishing}
+use Rattle.frames.proofs.Gathered.{long-reading, ready-first}
+use Rattle.frames.proofs.measure.Statement.{statement}
+use Rattle.frames.proofs.measure.Tie as tie
+
+part-publishing-end : tie.Need-part-publishing-end
+part-publishing-end c =
+    let gathered = c .gather-both .ensures in
+    omega (arith, few-publishing gathered refl refl, long-publishing gathered refl refl)
+
+part-reading-end : tie.Need-part-reading-end
+part-reading-end c =
+    let gathered = c .before .gather-both .ensures in
+    omega (arith, few-reading gathered refl refl, long-reading gathered refl refl)
+
+returns : tie.Need-returns
+returns c right =
+    let gathered = c .before .before .before .before .before .gather-both .ensures in
+    c .before .before .count-frames .ensures _ right (ready-first gathered refl refl)
+
+pub measure-spec : {M : Type 1} → statement M
+measure-spec =
+    tie.close
+    (tie.spec
+    (λ c κs. search needs)  -- gather-both-requires
+    (λ c. search needs)  -- sub-count-frames
+    (λ c. search needs)  -- part-publishing-start
+    part-publishing-end
+    (λ c. search needs)  -- sub-count-frames-2
+    (λ c. search needs)  -- part-reading-start
+    part-reading-end
+    (λ c κs. search needs)  -- count-frames-requires
+    returns)
