@@ -4,7 +4,6 @@ use Prim.Native.Nat.{ℕ, _<_, min}
 use mathlib.Core.Path.{_≡_, refl, sym, ap, _∙_}
 use mathlib.Core.Bool.{Bool, true, _&&_}
 use mathlib.Core.List.{List}
-use native.Mathlib.Nat.{mod-eq-of-lt}
 use native.Mathlib.Omega.{arith}
 use borrow.Author.Tests.{eq-eqb, eqb-true}
 use lib.Dec.{eqb}
@@ -18,7 +17,7 @@ use Rattle.table.specs.Table.{marks, writerOf, reads, joins}
 use Rattle.table.specs.declared.Table.{Table}
 use Rattle.table.specs.Image.{Whole}
 use Rattle.table.specs.Rules.{MeetsRules}
-use Rattle.instants.specs.Due.{writerDue}
+use Rattle.instants.proofs.OfTable.{writer-is}
 use Rattle.gathering.specs.Pairs.{codeOf, ownTask, pairCounted, tasksIn, pairsWith, pairsOf, joinedMasks}
 use Rattle.counting.specs.Counting.{joinedOf, pairsIn}
 use Rattle.counting.proofs.Marks.{joined-marks}
@@ -92,17 +91,13 @@ module _ (whole : Whole) (rules : MeetsRules whole) where
   abbrev table : Table
   table = whole .table
 
-  writer-is : (l : ℕ) → l < table .labels → writerDue (table .writer) l ≡ writerOf table l
-  unfolding writerDue writerOf
-  writer-is l known = mod-eq-of-lt (omega (arith, rules .writer l known, rules .tasks .1))
-
   pub joined-joins : (w r : ℕ) → w < 32 → marks (getD (joinedOf table) w 0) r ≡ joins table w r
   unfolding joinedMasks joins reads
   joined-joins w r known =
       let all : min (table .labels) 64 ≡ table .labels = omega (arith, rules .labels .1) in
       rw all (joined-marks (table .writer) (table .readers) (table .labels) w r known
       ∙ someBelow-same (table .labels) _ _ (λ l there.
-      ap (λ v. eqb v w && marks (getD (table .readers) l 0) r) (writer-is l there)))
+      ap (λ v. eqb v w && marks (getD (table .readers) l 0) r) (writer-is whole rules l there)))
 
   -- tasks that are joined are tasks of the table
   pub joined-known : (w r : ℕ) → joins table w r ≡ true → (w < table .tasks) × (r < table .tasks)

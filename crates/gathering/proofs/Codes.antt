@@ -9,9 +9,6 @@ use Rattle.gathering.specs.Counters.{counterOf, lastTick, tickIn, writer
 use Rattle.gathering.specs.Counters.{timingIn, pointFrom, counterFrom}
 
 module _ (w r : ℕ) (writes : w < 32) (reads : r < 32) where
-  pub code-below : codeOf w r < 1024
-  code-below = omega arith
-
   pub code-writer : writerIn (codeOf w r) ≡ w
   code-writer = omega arith
 

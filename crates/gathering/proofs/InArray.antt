@@ -4,14 +4,13 @@ use mathlib.Core.Path.{refl, sym, ap, _∙_}
 use mathlib.Core.List.{List, [], _∷_, _++_, append-nil, append-assoc}
 use native.Mathlib.Omega.{arith}
 use lib.ListN.{set, length-append}
-use Rattle.lists.proofs.Over.{held-more}
+use Rattle.lists.proofs.Over.{over-none, held-more}
 use Rattle.gathering.specs.Stored.{Stored, Adds}
 
 module _ (counter : ℕ → ℕ) where
   -- nothing was stored yet
   pub stored-none : (array : List ℕ) → Stored counter [] array 0 array
-  unfolding Rattle.lists.specs.Lists.over
-  stored-none array = record { many = refl; holds = refl }
+  stored-none array = record { many = refl; holds = sym (over-none array) }
 
   -- nothing more
   pub adds-none : (count : ℕ) (array : List ℕ) → Adds counter [] count array count array

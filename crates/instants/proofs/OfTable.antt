@@ -29,28 +29,27 @@ arranged false false joins point also = refl
 arranged true true joins point also = rw (also refl)
 arranged true false joins point also = refl
 
-module _ (whole : Whole) (rules : MeetsRules whole) (core t : ℕ) (publishes serves : List ℕ)
-    (due : Due (whole .table) core t publishes serves)
-  where
-    abbrev table : Table
-    table = whole .table
+module _ (whole : Whole) (rules : MeetsRules whole) where
+  abbrev table : Table
+  table = whole .table
 
-    -- the writer of a label, which goes from it to each of its readers
-    writer-known : (l : ℕ) → l < table .labels → writerOf table l < 32
-    writer-known l known = omega (arith, rules .writer l known, rules .tasks .1)
+  -- the writer of a label, which goes from it to each of its readers
+  writer-known : (l : ℕ) → l < table .labels → writerOf table l < 32
+  writer-known l known = omega (arith, rules .writer l known, rules .tasks .1)
 
-    writer-is : (l : ℕ) → l < table .labels → writerDue (table .writer) l ≡ writerOf table l
-    unfolding writerDue writerOf
-    writer-is l known = mod-eq-of-lt (writer-known l known)
+  pub writer-is : (l : ℕ) → l < table .labels → writerDue (table .writer) l ≡ writerOf table l
+  unfolding writerDue writerOf
+  writer-is l known = mod-eq-of-lt (writer-known l known)
 
-    also-joined : (l r : ℕ) → l < table .labels → reads table l r ≡ true → joins table (writerOf table l) r ≡ true
-    unfolding joins
-    also-joined l r known marked = someBelow-found _ _ l known (rw (eq-eqb (writerOf table l) _ refl) marked)
+  also-joined : (l r : ℕ) → l < table .labels → reads table l r ≡ true → joins table (writerOf table l) r ≡ true
+  unfolding joins
+  also-joined l r known marked = someBelow-found _ _ l known (rw (eq-eqb (writerOf table l) _ refl) marked)
 
-    unread-past : (l r : ℕ) → l < table .labels → table .tasks ≤ r → reads table l r ≡ false
-    unread-past l r known past =
-        false-unless-true (reads table l r) (λ marked. absurd (omega (arith, rules .reader l r known marked .0)))
+  unread-past : (l r : ℕ) → l < table .labels → table .tasks ≤ r → reads table l r ≡ false
+  unread-past l r known past =
+      false-unless-true (reads table l r) (λ marked. absurd (omega (arith, rules .reader l r known marked .0)))
 
+  module _ (core t : ℕ) (publishes serves : List ℕ) (due : Due (whole .table) core t publishes serves) where
     write-is : (l : ℕ) → l < table .labels
         → someBelow 32 (inBoth (readersOf table l) (getD publishes (writerOf table l) 0))
         ≡ (eqb (coreOf table (writerOf table l)) core && written table l t)
