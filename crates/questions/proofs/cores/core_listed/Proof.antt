@@ -34,8 +34,7 @@ few : (c : tie.After-measure) → (c .measure .result .frames ≤ 1000000) × (c
 few c =
     let start = c .before .before .before .before .before in
     let right = start .pre in
-    let round = right .meets .hyperperiod in
-    (
+    let round = right .meets .hyperperiod in (
       omega (arith, counts c .many, few-frames _ right (start .args .core)),
       omega (arith, counts c .copies, few-copied _ right (start .args .core)),
     )
