@@ -21,7 +21,7 @@ use timing::{times, Times};
 
 fn print(what: &str, times: Times) {
     let (Times { proved, plain }, ratio) = (times, times.ratio());
-    println!("{what}: proved {proved:.0} ns, plain Rust {plain:.0} ns, ratio {ratio:.2}");
+    println!("{what}: proved {proved:.0} ns, plain Rust {plain:.0} ns, ratio {ratio:.3}");
 }
 
 /// The table is made and kept whole, although only the answer is used.
@@ -99,7 +99,7 @@ fn main() {
         compare_listing(example, &tables::example(), by_proof);
         compare_listing("a control unit", &tables::control_unit(), by_proof);
         compare_listing("a sparse round", &tables::sparse(), by_proof);
-        compare_listing("a dense round", &tables::dense(), by_proof);
+        compare_listing("a dense round", &tables::dense(10_000), by_proof);
         compare_listing("fast tasks wanted rarely", &tables::ring(), by_proof);
         let [short, long] = [10_000, 1_000_000].map(|round| {
             compare_listing(&format!("two frames in {round}"), &tables::two_frames(round), by_proof)

@@ -38,11 +38,12 @@ pub fn sparse() -> Description {
     on_eight_cores(&divisors.collect::<Vec<u64>>())
 }
 
-/// On one core 31 tasks of period 1 and one of 10,000, and 64 labels that all others read.
-pub fn dense() -> Description {
+/// On one core 31 tasks of period 1 and one that is released once in a round, and 64 labels that all
+/// others read: 2,887 bytes for every tick.
+pub fn dense(round: u64) -> Description {
     let others = |label| (0..32).filter(|&task| task != label % 32).collect();
     let mut periods = [1; 32];
-    periods[31] = 10_000;
+    periods[31] = round;
     Description {
         labels: (0..64).map(|label| (label % 32, others(label))).collect(),
         ..Description::of_periods(&periods)

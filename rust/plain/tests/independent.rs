@@ -107,6 +107,7 @@ fn the_benchmarks_tables() {
     for table in [tables::example(), tables::control_unit(), tables::sparse(), tables::ring()] {
         check_listings(&table.image());
     }
+    check_listings(&tables::dense(100).image());
     for table in rounds {
         check_listings(&table.image());
         let length = independent::listing_length(&table.image(), 0).unwrap();
@@ -118,12 +119,4 @@ fn the_benchmarks_tables() {
     }
     assert_eq!(ages(&tables::most_paths().image(), 0).unwrap().paths, 55_440);
     assert_eq!(ages(&tables::rare_paths().image(), 0).unwrap().paths, 999);
-}
-
-#[test]
-fn the_dense_table() {
-    let image = tables::dense().image();
-    let bytes = independent::listing_length(&image, 0).unwrap() as usize;
-    assert!((28_000_000..30_000_000).contains(&bytes));
-    check_listing(&image, 0, bytes);
 }
