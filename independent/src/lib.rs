@@ -21,5 +21,5 @@ pub mod tables;
 pub use ages::Ages;
 pub use image::{read, Label, Table, Task};
 pub use print::print;
-pub use questions::{ages, listing, listing_length, points};
+pub use questions::{ages, ages_in, listing, listing_in, listing_length, points, points_in};
 pub use refusal::Refusal;

@@ -1,79 +1,118 @@
-//! How long the proved code takes to read an image, in multiples of the same reading in plain Rust
-//! built for release: both in one run, in turns, the middle of many short rounds. It prints ratios
-//! and is no test of speed; that both say the same of the images, whole and cut, is checked first.
+//! How long the proved code takes, in multiples of plain Rust built for release, as fast as it
+//! could be written: to read an image, to list the cores of a table, to find the ages of its
+//! chains. Both in one run, in turns, the least of many rounds. It prints ratios and is no test of
+//! speed; that both say the same is checked first.
 
 #![forbid(unsafe_code)]
 
-mod parts;
-mod plain;
+mod proved;
+mod timing;
 
 use std::hint::black_box;
-use std::time::Instant;
 
 use independent::make::Description;
 use independent::random::Random;
 use independent::tables::{table, Size};
+use plain::ages::{ages, ages_by_every_start};
+use plain::listing::listing;
+use plain::reading::{read, Refusal, NOTHING};
+use plain::tables;
+use timing::{times, Times};
 
-/// Document 01's number and place; 0 and 0 where the image is accepted.
-type Said = (u32, u64);
-
-fn by_proved_code(image: &[u8]) -> Said {
-    liskobran::read(image).map_or_else(|refusal| (refusal.number, refusal.place), |()| (0, 0))
+fn print(what: &str, times: Times) {
+    let (Times { proved, plain }, ratio) = (times, times.ratio());
+    println!("{what}: proved {proved:.0} ns, plain Rust {plain:.0} ns, ratio {ratio:.3}");
 }
 
 /// The table is made and kept whole, although only the answer is used.
-fn by_plain_rust(image: &[u8]) -> Said {
-    let mut table = plain::NOTHING;
-    let said = plain::read(image, &mut table).map_or_else(|refusal| refusal, |()| (0, 0));
+fn plain_read(image: &[u8]) -> Result<(), Refusal> {
+    let mut table = NOTHING;
+    let said = read(image, &mut table);
     black_box(&table);
     said
 }
 
-/// Nanoseconds for one reading, by so many readings one after the other.
-fn nanoseconds(read: fn(&[u8]) -> Said, image: &[u8], times: u32) -> f64 {
-    let begun = Instant::now();
-    for _ in 0..times {
-        black_box(read(black_box(image)));
-    }
-    begun.elapsed().as_nanos() as f64 / f64::from(times)
-}
-
-fn middle(mut numbers: Vec<f64>) -> f64 {
-    numbers.sort_by(f64::total_cmp);
-    numbers[numbers.len() / 2]
-}
-
-const ROUNDS: usize = 1_001;
-
-fn compare(what: &str, image: &[u8], times: u32) {
+fn compare_reading(what: &str, image: &[u8]) {
     for bytes in 0..=image.len() {
-        assert_eq!(by_proved_code(&image[..bytes]), by_plain_rust(&image[..bytes]));
+        assert_eq!(proved::read(&image[..bytes]), plain_read(&image[..bytes]));
     }
-    let (mut proved, mut plain, mut ratios) = (vec![], vec![], vec![]);
-    for _ in 0..ROUNDS {
-        let by_proof = nanoseconds(by_proved_code, image, times);
-        let by_plain = nanoseconds(by_plain_rust, image, times);
-        proved.push(by_proof);
-        plain.push(by_plain);
-        ratios.push(by_proof / by_plain);
+    let ask = |read: fn(&[u8]) -> Result<(), Refusal>| {
+        move || {
+            _ = black_box(read(black_box(image)));
+        }
+    };
+    let times = times(ask(proved::read), ask(plain_read));
+    print(&format!("{what}, {} bytes, read", image.len()), times);
+}
+
+/// All cores of a table, each into a buffer that has room for the longest listing and no more.
+fn compare_listing(what: &str, table: &Description, by_proof: proved::Listing) -> Times {
+    let image = table.image();
+    let cores = table.cores;
+    let lengths = (0..cores).map(|core| independent::listing_length(&image, core));
+    let lengths: Vec<u64> = lengths.collect::<Result<_, _>>().expect("the table is valid");
+    let room = lengths.iter().max().map_or(0, |&longest| longest as usize);
+    let mut buffers = [vec![0xff; room], vec![0xff; room]];
+    for core in 0..=cores {
+        let [one, other] = &mut buffers;
+        assert_eq!(by_proof(&image, core, one), listing(&image, core, other));
+        assert!(one == other, "{what}: the listings of core {core} differ");
     }
-    let (proved, plain, ratio) = (middle(proved), middle(plain), middle(ratios));
-    let bytes = image.len();
-    println!(
-        "{what}, {bytes} bytes: proved {proved:.0} ns, plain Rust {plain:.0} ns, ratio {ratio:.2}"
-    );
+    let [one, other] = &mut buffers;
+    let ask = |list: proved::Listing, buffer: &mut [u8]| {
+        for core in 0..cores {
+            _ = black_box(list(black_box(&image), core, buffer));
+        }
+    };
+    let times = times(|| ask(by_proof, one), || ask(listing, other));
+    print(&format!("{what}, {} bytes listed", lengths.iter().sum::<u64>()), times);
+    times
+}
+
+/// All chains of a table.
+fn compare_ages(what: &str, table: &Description, by_proof: proved::AgesOf, plain: proved::AgesOf) {
+    let image = table.image();
+    let chains = table.chains.len() as u64;
+    for chain in 0..=chains {
+        assert_eq!(by_proof(&image, chain), plain(&image, chain));
+    }
+    let ask = |ages: proved::AgesOf| {
+        let image = &image;
+        move || {
+            for chain in 0..chains {
+                _ = black_box(ages(black_box(image), chain));
+            }
+        }
+    };
+    print(&format!("{what}, ages"), times(ask(by_proof), ask(plain)));
 }
 
 fn main() {
-    let example = Description {
-        cores: 2,
-        tasks: vec![(0, 2), (1, 5)],
-        labels: vec![(0, vec![1])],
-        chains: vec![vec![0, 1]],
-    };
-    compare("the example of document 01", &example.image(), 1_000);
+    let example = "the example of document 01";
+    compare_reading(example, &tables::example().image());
     let mut random = Random::new(1);
     let largest = table(&mut random, &Size::largest(1_000_000)).image();
-    assert_eq!((largest.len(), by_proved_code(&largest)), (480, (0, 0)));
-    compare("a largest table", &largest, 40);
+    assert_eq!((largest.len(), proved::read(&largest)), (480, Ok(())));
+    compare_reading("a largest table", &largest);
+
+    if let Some(by_proof) = proved::LISTING {
+        compare_listing(example, &tables::example(), by_proof);
+        compare_listing("a control unit", &tables::control_unit(), by_proof);
+        compare_listing("a sparse round", &tables::sparse(), by_proof);
+        compare_listing("a dense round", &tables::dense(10_000), by_proof);
+        compare_listing("fast tasks wanted rarely", &tables::ring(), by_proof);
+        let [short, long] = [10_000, 1_000_000].map(|round| {
+            compare_listing(&format!("two frames in {round}"), &tables::two_frames(round), by_proof)
+        });
+        let (proved, plain) = (long.proved / short.proved, long.plain / short.plain);
+        println!("H a hundred times larger: proved {proved:.2} times, plain Rust {plain:.2} times");
+    }
+    if let Some(by_proof) = proved::AGES {
+        compare_ages(example, &tables::example(), by_proof, ages);
+        compare_ages("chain 3, 7, 3", &tables::of_three(), by_proof, ages);
+        compare_ages("a chain of 55,440 paths", &tables::most_paths(), by_proof, ages);
+        let (rare, what) = (tables::rare_paths(), "999 paths among 999,999 starts");
+        compare_ages(what, &rare, by_proof, ages);
+        compare_ages(&format!("{what}, each tried"), &rare, by_proof, ages_by_every_start);
+    }
 }

@@ -4,7 +4,7 @@
 
 use crate::faulty::{faulty, Program};
 use crate::run::run;
-use crate::said::{by_independent, by_proved_code};
+use crate::said::{by_proved_code, Independent};
 use crate::tally::Tally;
 
 pub struct Comparison {
@@ -25,10 +25,11 @@ impl Comparison {
 pub fn compare(seed: u64, least: u64) -> Comparison {
     let mut tally = Tally::default();
     let mut programs = faulty();
+    let mut independent = Independent::new();
     let count = programs.len();
     run(seed, least, &mut |kind, image, question| {
         let proved = by_proved_code(image, question);
-        let expected = by_independent(image, question);
+        let expected = independent.says(image, question);
         programs.retain_mut(|program| {
             let said = (program.says)(image, question, &proved);
             program.tally.take(kind, image, question, said, expected.clone());

@@ -1,6 +1,8 @@
 //! What is said to a question: document 01's number and place, and the values of the answer. Where
 //! the question is answered the number and the place are 0; where it is refused there is no value.
 
+use independent::{points_in, read, Refusal, Table};
+
 use crate::question::Question;
 
 #[derive(Debug, Clone, PartialEq, Eq)]
@@ -30,12 +32,31 @@ pub fn by_proved_code(image: &[u8], question: Question) -> Said {
     said.unwrap_or_else(|refusal| Said::refused(refusal.number, refusal.place))
 }
 
-/// By the independent program.
-pub fn by_independent(image: &[u8], question: Question) -> Said {
-    let said = match question {
-        Question::Read => independent::read(image).map(|_| Said::answered(&[])),
-        Question::Points { writer, reader, n } => independent::points(image, writer, reader, n)
-            .map(|(publishing, reading)| Said::answered(&[publishing, reading])),
-    };
-    said.unwrap_or_else(|refusal| Said::refused(refusal.number, refusal.place))
+/// The independent program. It reads an image once for all questions that follow one another.
+pub struct Independent {
+    image: Vec<u8>,
+    read: Result<Table, Refusal>,
+}
+
+impl Independent {
+    /// Begins with the empty image.
+    pub fn new() -> Independent {
+        Independent { image: Vec::new(), read: read(&[]) }
+    }
+
+    pub fn says(&mut self, image: &[u8], question: Question) -> Said {
+        if self.image != image {
+            self.image = image.to_vec();
+            self.read = read(image);
+        }
+        let said = match &self.read {
+            Err(refusal) => Err(*refusal),
+            Ok(table) => match question {
+                Question::Read => Ok(Said::answered(&[])),
+                Question::Points { writer, reader, n } => points_in(table, writer, reader, n)
+                    .map(|(publishing, reading)| Said::answered(&[publishing, reading])),
+            },
+        };
+        said.unwrap_or_else(|refusal| Said::refused(refusal.number, refusal.place))
+    }
 }

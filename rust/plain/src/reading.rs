@@ -1,4 +1,4 @@
-//! The same reading in plain Rust: document 01, "Table image" and the numbers 1 to 10 of "Numbers
+//! The reading of an image: document 01, "Table image" and the numbers 1 to 10 of "Numbers
 //! that say no". Fields are taken by whole bytes and shifts, eight bytes at once where the image
 //! has them; the table is held in arrays. The proved code's own means are used too, so that no ratio
 //! rests on a slower way: the search for a step's label meets the labels of one writer only, and a
@@ -19,6 +19,7 @@ pub struct Table {
     pub readers: [u32; 64],
     pub length: [u32; 16],
     pub rows: [[u32; 8]; 16],
+    pub hyperperiod: u32,
 }
 
 /// The table with nothing in it.
@@ -33,6 +34,7 @@ pub const NOTHING: Table = Table {
     readers: [0; 64],
     length: [0; 16],
     rows: [[0; 8]; 16],
+    hyperperiod: 0,
 };
 
 /// Reads an image into a table that holds nothing yet.
@@ -76,8 +78,6 @@ pub fn read(image: &[u8], table: &mut Table) -> Result<(), Refusal> {
         }
     }
     check_end(image, at)?;
-    match hyperperiod(&table.period[..table.tasks]) {
-        0..=1_000_000 => Ok(()),
-        _ => Err((10, 0)),
-    }
+    table.hyperperiod = hyperperiod(&table.period[..table.tasks]).ok_or((10, 0))?;
+    Ok(())
 }

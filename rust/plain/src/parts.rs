@@ -1,7 +1,7 @@
 //! The parts of the plain reading: fields, the search for a step's label, the end of the image and
 //! the hyperperiod.
 
-use crate::plain::{Refusal, Table};
+use crate::reading::{Refusal, Table};
 
 /// The field of 1 to 32 bits at a place; refused 1 where the image ends before the field does.
 #[inline(always)]
@@ -79,8 +79,8 @@ pub fn check_end(image: &[u8], at: usize) -> Result<(), Refusal> {
     Ok(())
 }
 
-/// The least common multiple, or some number above 1,000,000 where it is above.
-pub fn hyperperiod(periods: &[u32]) -> u64 {
+/// The least common multiple, at most 1,000,000.
+pub fn hyperperiod(periods: &[u32]) -> Option<u32> {
     let mut common = 1;
     for &period in periods {
         let period = u64::from(period);
@@ -90,8 +90,8 @@ pub fn hyperperiod(periods: &[u32]) -> u64 {
         }
         common = common / a * period;
         if common > 1_000_000 {
-            break;
+            return None;
         }
     }
-    common
+    Some(common as u32)
 }

@@ -1,0 +1,122 @@
+//! The plain programs say what the independent program says, of random tables, of images that are
+//! damaged, and of the benchmark's own tables.
+
+#![forbid(unsafe_code)]
+
+use independent::make::Description;
+use independent::random::Random;
+use independent::tables::{table, Size};
+use plain::ages::{ages, ages_by_every_start, Ages};
+use plain::listing::listing;
+use plain::reading::Refusal;
+use plain::tables;
+
+fn refused(refusal: independent::Refusal) -> Refusal {
+    (refusal.number, refusal.place)
+}
+
+/// What a buffer holds before.
+const HELD: u8 = 0xa5;
+
+/// One core, with so many bytes of room; the bytes after the listing are watched too.
+fn check_listing(image: &[u8], core: u64, room: usize) {
+    let (mut one, mut other) = (vec![HELD; room], vec![HELD; room]);
+    let expected = independent::listing(image, core, &mut other).map(|bytes| bytes as u64);
+    assert_eq!(listing(image, core, &mut one), expected.map_err(refused));
+    assert!(one == other, "core {core} of {image:02x?} differs");
+}
+
+/// All cores, and one that is not there: with the room exact, less, more, and none.
+fn check_listings(image: &[u8]) {
+    let cores = independent::read(image).map_or(0, |table| table.cores);
+    for core in 0..=cores {
+        let length = independent::listing_length(image, core).unwrap_or(0) as usize;
+        for room in [length, length.saturating_sub(1), length + 9, 0] {
+            check_listing(image, core, room);
+        }
+    }
+}
+
+/// All chains, and one that is not there.
+fn check_ages(image: &[u8]) {
+    let chains = independent::read(image).map_or(0, |table| table.chains.len());
+    for chain in 0..=chains as u64 {
+        let expected = independent::ages(image, chain).map(|ages| Ages {
+            paths: ages.paths as u32,
+            longest: ages.longest as u32,
+            worst: ages.worst as u32,
+            best: ages.best as u32,
+            jitter: ages.jitter as u32,
+        });
+        let expected = expected.map_err(refused);
+        assert_eq!(ages(image, chain), expected);
+        assert_eq!(ages_by_every_start(image, chain), expected);
+    }
+}
+
+/// Tables of every size, with longer rounds where they are smaller.
+fn any_table(random: &mut Random) -> Description {
+    let size = match random.below(8) {
+        0 => Size::largest(random.choose(&[1, 10, 30])),
+        1 | 2 => Size::any(random, 210),
+        _ => {
+            let hyperperiod = random.choose(&[12, 100, 1_000, 5_040]);
+            Size::small(random, hyperperiod)
+        }
+    };
+    table(random, &size)
+}
+
+#[test]
+fn random_tables() {
+    let mut random = Random::new(7);
+    for _ in 0..3_000 {
+        let image = any_table(&mut random).image();
+        check_listings(&image);
+        check_ages(&image);
+    }
+}
+
+#[test]
+fn damaged_images() {
+    let mut random = Random::new(8);
+    for _ in 0..3_000 {
+        let mut image = any_table(&mut random).image();
+        image.truncate(random.between(1, image.len() as u64) as usize);
+        let byte = random.below(image.len() as u64) as usize;
+        image[byte] ^= 1 << random.below(8);
+        for core in [0, 7] {
+            check_listing(&image, core, 100_000);
+        }
+        check_ages(&image[..byte]);
+    }
+}
+
+#[test]
+fn long_rounds() {
+    let mut random = Random::new(9);
+    for _ in 0..20 {
+        let size = Size { tasks: 3, ..Size::small(&mut random, 1_000_000) };
+        check_listings(&table(&mut random, &size).image());
+    }
+}
+
+#[test]
+fn the_benchmarks_tables() {
+    let rounds = [10_000, 1_000_000].map(tables::two_frames);
+    for table in [tables::example(), tables::control_unit(), tables::sparse(), tables::ring()] {
+        check_listings(&table.image());
+    }
+    check_listings(&tables::dense(100).image());
+    for table in rounds {
+        check_listings(&table.image());
+        let length = independent::listing_length(&table.image(), 0).unwrap();
+        assert_eq!(length, (43u64 + 2 * 32 + 4 * 12).div_ceil(8));
+    }
+    for table in [tables::example(), tables::of_three(), tables::most_paths(), tables::rare_paths()]
+    {
+        check_ages(&table.image());
+    }
+    assert_eq!(ages(&tables::most_paths().image(), 0).unwrap().paths, 55_440);
+    assert_eq!(ages(&tables::rare_paths().image(), 0).unwrap().paths, 999);
+}
