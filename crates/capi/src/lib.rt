@@ -2,6 +2,7 @@
 // where the question is answered, and else that of document 01, Numbers that say no. What each answer says:
 // specs/Said.antt. No function requires anything. A slice has an address that is not null; include/liskobran.h declares
 // the functions for C, and others over them that take an empty image by any address.
+pub mod cores;
 pub mod pairs;
 pub mod reading;
 
@@ -19,4 +20,12 @@ pub struct LiskobranPoints {
     pub place: u64,
     pub publishing: u64,
     pub reading: u64,
+}
+
+// The copy listing of a core: how many bytes of the lent buffer it fills.
+#[repr(C)]
+pub struct LiskobranListing {
+    pub number: u32,
+    pub place: u64,
+    pub bytes: u64,
 }
