@@ -13,9 +13,10 @@ returns c =
 returns-2 : tie.Need-returns-2
 unfolding listingSaid
 returns-2 c =
-    let asked = c .before .before .before .before .before .before in
-    (rw (← asked .listing .ensures .0, c .before .before .answer2 .given .1, c .number-of .ensures),
-      asked .listing .ensures .1)
+    let asked = c .before .before .before .before .before .before in (
+      rw (← asked .listing .ensures .0, c .before .before .answer2 .given .1, c .number-of .ensures),
+      asked .listing .ensures .1,
+    )
 
 pub liskobran-listing-slice-spec : {M : Type 1} → statement M
 liskobran-listing-slice-spec =
