@@ -1,6 +1,7 @@
 -- Laws of the counters, for the crates above.
 pub mod Between
 pub mod DueMasks
+pub mod LabelsDue
 pub mod Least
 pub mod Marks
 pub mod OfTable
