@@ -7,5 +7,7 @@ pub mod Marks
 pub mod OfTable
 pub mod OnePair
 pub mod PointKinds
+pub mod ReadsCounted
+pub mod ReadsMany
 pub mod Start
 pub mod Steps

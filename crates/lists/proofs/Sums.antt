@@ -99,3 +99,10 @@ cond-below false (suc n) f = ap (λ l. l ++ []) (cond-below false n f)
 pub cond-only : {A : Type 0} (b c : Bool) (x : A) → cond b (onlyIf c x) [] ≡ onlyIf (b && c) x
 cond-only true c x = refl
 cond-only false c x = refl
+
+pub each-of-each : {A B C : Type 0} (xs : List A) (f : A → List B) (adds : B → List C)
+    → eachOf (eachOf xs f) adds ≡ eachOf xs (λ x. eachOf (f x) adds)
+unfolding eachOf
+each-of-each [] f adds = refl
+each-of-each (x ∷ xs) f adds =
+    each-of-append adds (f x) (eachOf xs f) ∙ ap (λ l. eachOf (f x) adds ++ l) (each-of-each xs f adds)
