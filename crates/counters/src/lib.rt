@@ -4,15 +4,22 @@
 ghost use mathlib.Core.Path.{_≡_};
 ghost use mathlib.Core.List.{map};
 ghost use mathlib.Core.Bool.{true, false};
-ghost use Prim.Native.Nat.{_≤_};
+ghost use Prim.Native.Nat.{_≤_, _<_, _^_};
+ghost use lib.Count.{ones};
 ghost use lib.ListN.{length};
 ghost use Rattle.counters.specs.Advanced.{stepped, masksDue, labelsDue, countDue, nextDue};
 
 mod one;
 
 use one::gone_on;
-use one::how_many;
 use one::smaller;
+
+// How many labels a mask has.
+pub fn how_many(labels: u64) -> u32
+    ensures { λ r. ⌜ (r ≡ ones labels) × (r ≤ 64) × (labels < 2 ^ 64) ⌝ }
+{
+    u64::count_ones(labels)
+}
 
 // What is written at an instant: the labels, and the next tick at which a publishing counter is due.
 pub struct Written {
@@ -80,6 +87,7 @@ pub fn advance_reads(
       count = countDue t (now (written .entry)) (now (read .entry)) (now (counters .entry));
       next = nextDue true (now (periods .entry)) t (now (counters .entry));
     } ⌝ }
+    ensures few { λ r. ⌜ r .count ≤ 65536 ⌝ }
     ensures gone { λ r. ⌜ now (counters .exit) ≡ map (stepped true (now (periods .entry)) t) (now (counters .entry)) ⌝ }
 {
     let mut serves: [u32; 32] = [0; 32];

@@ -1,7 +1,6 @@
 // How one counter goes on.
 ghost use mathlib.Core.Path.{_≡_};
-ghost use Prim.Native.Nat.{min, _≤_};
-ghost use lib.Count.{ones};
+ghost use Prim.Native.Nat.{min};
 ghost use Rattle.counters.specs.Advanced.{pointAfter, goneOn};
 use gathering::counter_of;
 use next_points::publishing_after;
@@ -13,13 +12,6 @@ pub(crate) fn smaller(a: u32, b: u32) -> u32
     ensures { λ r. ⌜ r ≡ min a b ⌝ }
 {
     if a < b { a } else { b }
-}
-
-// How many labels a mask has.
-pub(crate) fn how_many(labels: u64) -> u32
-    ensures { λ r. ⌜ (r ≡ ones labels) × (r ≤ 64) ⌝ }
-{
-    u64::count_ones(labels)
 }
 
 // The point of a pair after one of them.

@@ -8,9 +8,10 @@ use native.Mathlib.Decide.{ℕ-discrete, decLt}
 use native.Mathlib.Nat.{mod-lt, zero-div}
 use native.Mathlib.Omega.{arith}
 use borrow.Author.Tests.{eq-eqb, ne-eqb, lt-ltb, le-ltb}
-use lib.Bits.{bitOr}
+use lib.Bits.{bitOr, or-lt}
 use lib.Dec.{eqb, ltb, lit<}
 use lib.ListN.{length, getD, set, replicate, getD-replicate}
+use lib.Pow.{pow-lt}
 use lib.Seq.{getD-set-same, getD-set-other}
 use Rattle.masks.specs.Masks.{holds}
 use Rattle.masks.proofs.Bitwise.{shifted-alone, one-more-holds}
@@ -23,6 +24,9 @@ with-label : (mask l k : ℕ) → l < 64
     → holds 64 (bitOr mask (9223372036854775808 / 2 ^ l)) k ≡ (holds 64 mask k || eqb k l)
 with-label mask l k known =
     ap (λ bit. holds 64 (bitOr mask bit) k) (shifted-alone 64 l known) ∙ one-more-holds 64 mask l k known
+
+one-bit : (l : ℕ) → l < 64 → 9223372036854775808 / 2 ^ l < 2 ^ 64
+one-bit l known = rw (shifted-alone 64 l known) (pow-lt {i = 64 - suc l} {j = 64} (omega arith))
 
 -- a test of the numbers below n, with n itself or without it
 below-same : (n k : ℕ) (test : Bool) → ¬ (k ≡ n) → (ltb k n && test) ≡ (ltb k (n + 1) && test)
@@ -75,12 +79,20 @@ module _ (writer : List ℕ) where
   writer-below l = mod-lt (getD writer l 0) (lit< tt)
 
   pub none-written : WrittenLabels 0 writer (replicate 32 0)
-  none-written = record { has = λ w l known few. no-masks w known l ∙ none-below l _ }
+  none-written = record {
+    few = λ w known. rw (getD-replicate {A = ℕ} 32 w 0 0 known) (omega arith);
+    has = λ w l known few. no-masks w known l ∙ none-below l _;
+  }
 
   pub one-more-written : {l : ℕ} {masks : List ℕ} → length masks ≡ 32 → l < 64 → WrittenLabels l writer masks
       → WrittenLabels (l + 1) writer
       (set masks (writerDue writer l) (bitOr (getD masks (writerDue writer l) 0) (9223372036854775808 / 2 ^ l)))
-  one-more-written {l} {masks} long few written = record { has = λ w k known below.
+  one-more-written {l} {masks} long few written = record { few = λ w known.
+      by-cases (ℕ-discrete w (writerDue writer l))
+      (λ same. rw (same, getD-set-same masks (writerDue writer l) _ 0 (omega (arith, writer-below l)))
+      (or-lt 64 (getD masks (writerDue writer l) 0) (9223372036854775808 / 2 ^ l)
+      (written .few (writerDue writer l) (writer-below l)) (one-bit l few)))
+      (λ other. rw (getD-set-other masks (writerDue writer l) w _ 0 other) (written .few w known)); has = λ w k known below.
       by-cases (ℕ-discrete w (writerDue writer l))
       (λ same. rw (same, getD-set-same masks (writerDue writer l) _ 0 (omega (arith, writer-below l)))
       (with-label (getD masks (writerDue writer l) 0) l k few
@@ -93,7 +105,7 @@ module _ (writer : List ℕ) where
 
   pub all-written : {labels : ℕ} {masks : List ℕ} → WrittenLabels (min labels 64) writer masks
       → WrittenLabels labels writer masks
-  all-written {labels} written = record { has = λ w l known few.
+  all-written {labels} written = record { few = written .few; has = λ w l known few.
       written .has w l known few ∙ ap (λ b. b && eqb (writerDue writer l) w) (same-labels labels l few) }
 
 -- the labels that tasks read

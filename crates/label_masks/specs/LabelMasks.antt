@@ -1,5 +1,5 @@
 -- The labels of each task as masks of 64 bits. No contract of a question cites this file. Assumes nothing.
-use Prim.Native.Nat.{ℕ, _<_}
+use Prim.Native.Nat.{ℕ, _<_, _^_}
 use mathlib.Core.Path.{_≡_}
 use mathlib.Core.Bool.{Bool, _&&_}
 use mathlib.Core.List.{List}
@@ -11,6 +11,7 @@ use Rattle.instants.specs.Due.{writerDue}
 
 -- of each task a mask of those of the first labels that it writes
 pub record WrittenLabels (labels : ℕ) (writer masks : List ℕ) : Type 0 where
+  pub few : (w : ℕ) → w < 32 → getD masks w 0 < 2 ^ 64
   pub has : (w l : ℕ) → w < 32 → l < 64 → holds 64 (getD masks w 0) l ≡ (ltb l labels && eqb (writerDue writer l) w)
 
 -- a mask of those of the first labels that task r reads

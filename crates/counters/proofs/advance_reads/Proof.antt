@@ -91,7 +91,7 @@ returns c =
         folded-all _ _ _ _ so-far over count,
         advanced-next _ _ _ _ so-far over,
       ),
-      advanced-counters _ _ _ _ so-far over,
+      (omega (arith, within, so-far .within, c .before .before .before .pre), advanced-counters _ _ _ _ so-far over),
     )
 
 pub advance-reads-spec : {M : Type 1} → statement M
