@@ -87,26 +87,32 @@ module _ (writer : List ℕ) where
   pub one-more-written : {l : ℕ} {masks : List ℕ} → length masks ≡ 32 → l < 64 → WrittenLabels l writer masks
       → WrittenLabels (l + 1) writer
       (set masks (writerDue writer l) (bitOr (getD masks (writerDue writer l) 0) (9223372036854775808 / 2 ^ l)))
-  one-more-written {l} {masks} long few written = record { few = λ w known.
-      by-cases (ℕ-discrete w (writerDue writer l))
-      (λ same. rw (same, getD-set-same masks (writerDue writer l) _ 0 (omega (arith, writer-below l)))
-      (or-lt 64 (getD masks (writerDue writer l) 0) (9223372036854775808 / 2 ^ l)
-      (written .few (writerDue writer l) (writer-below l)) (one-bit l few)))
-      (λ other. rw (getD-set-other masks (writerDue writer l) w _ 0 other) (written .few w known)); has = λ w k known below.
-      by-cases (ℕ-discrete w (writerDue writer l))
-      (λ same. rw (same, getD-set-same masks (writerDue writer l) _ 0 (omega (arith, writer-below l)))
-      (with-label (getD masks (writerDue writer l) 0) l k few
-      ∙ rw (written .has (writerDue writer l) k (writer-below l) below)
-      (below-with l k (eqb (writerDue writer k) (writerDue writer l)) (λ here. eq-eqb _ _ (ap (writerDue writer) here)))))
-      (λ other. rw (getD-set-other masks (writerDue writer l) w _ 0 other)
-      (written .has w k known below
-      ∙ below-without l k (eqb (writerDue writer k) w)
-      (λ here. ne-eqb _ _ (λ equal. other (sym equal ∙ ap (writerDue writer) here))))) }
+  one-more-written {l} {masks} long few written = record {
+    few = λ w known.
+        by-cases (ℕ-discrete w (writerDue writer l))
+        (λ same. rw (same, getD-set-same masks (writerDue writer l) _ 0 (omega (arith, writer-below l)))
+        (or-lt 64 (getD masks (writerDue writer l) 0) (9223372036854775808 / 2 ^ l)
+        (written .few (writerDue writer l) (writer-below l)) (one-bit l few)))
+        (λ other. rw (getD-set-other masks (writerDue writer l) w _ 0 other) (written .few w known));
+    has = λ w k known below.
+        by-cases (ℕ-discrete w (writerDue writer l))
+        (λ same. rw (same, getD-set-same masks (writerDue writer l) _ 0 (omega (arith, writer-below l)))
+        (with-label (getD masks (writerDue writer l) 0) l k few
+        ∙ rw (written .has (writerDue writer l) k (writer-below l) below)
+        (below-with l k (eqb (writerDue writer k) (writerDue writer l)) (λ here. eq-eqb _ _ (ap (writerDue writer) here)))))
+        (λ other. rw (getD-set-other masks (writerDue writer l) w _ 0 other)
+        (written .has w k known below
+        ∙ below-without l k (eqb (writerDue writer k) w)
+        (λ here. ne-eqb _ _ (λ equal. other (sym equal ∙ ap (writerDue writer) here)))));
+  }
 
   pub all-written : {labels : ℕ} {masks : List ℕ} → WrittenLabels (min labels 64) writer masks
       → WrittenLabels labels writer masks
-  all-written {labels} written = record { few = written .few; has = λ w l known few.
-      written .has w l known few ∙ ap (λ b. b && eqb (writerDue writer l) w) (same-labels labels l few) }
+  all-written {labels} written = record {
+    few = written .few;
+    has = λ w l known few.
+        written .has w l known few ∙ ap (λ b. b && eqb (writerDue writer l) w) (same-labels labels l few);
+  }
 
 -- the labels that tasks read
 module _ (readers : List ℕ) where
@@ -115,14 +121,18 @@ module _ (readers : List ℕ) where
 
   pub one-more-held : {l r mask : ℕ} → l < 64 → marks (getD readers l 0) r ≡ true → Holds l readers r mask
       → Holds (l + 1) readers r (bitOr mask (9223372036854775808 / 2 ^ l))
-  one-more-held {l} {r} {mask} few marked held = record { has = λ k below.
-      with-label mask l k few
-      ∙ rw (held .has k below) (below-with l k (marks (getD readers k 0) r) (λ here. rw here marked)) }
+  one-more-held {l} {r} {mask} few marked held = record {
+    has = λ k below.
+        with-label mask l k few
+        ∙ rw (held .has k below) (below-with l k (marks (getD readers k 0) r) (λ here. rw here marked));
+  }
 
   pub same-held : {l r mask : ℕ} → marks (getD readers l 0) r ≡ false → Holds l readers r mask
       → Holds (l + 1) readers r mask
-  same-held {l} {r} unmarked held = record { has = λ k below.
-      held .has k below ∙ below-without l k (marks (getD readers k 0) r) (λ here. rw here unmarked) }
+  same-held {l} {r} unmarked held = record {
+    has = λ k below.
+        held .has k below ∙ below-without l k (marks (getD readers k 0) r) (λ here. rw here unmarked);
+  }
 
   pub none-read : (labels : ℕ) → ReadLabels labels 0 readers (replicate 32 0)
   none-read labels = record { has = λ r l known few. no-masks r known l ∙ none-below r _ }
@@ -130,14 +140,18 @@ module _ (readers : List ℕ) where
   pub one-more-read : {labels r mask : ℕ} {masks : List ℕ} → length masks ≡ 32 → r < 32
       → Holds labels readers r mask → ReadLabels labels r readers masks
       → ReadLabels labels (r + 1) readers (set masks r mask)
-  one-more-read {labels} {r} {mask} {masks} long known held read = record { has = λ s l few below.
-      by-cases (ℕ-discrete s r)
-      (λ same. rw (same, getD-set-same masks r mask 0 (omega arith), lt-ltb r (r + 1) (omega arith)) (held .has l below))
-      (λ other. rw (getD-set-other masks r s mask 0 other)
-      (read .has s l few below ∙ below-same r s (ltb l labels && marks (getD readers l 0) s) other)) }
+  one-more-read {labels} {r} {mask} {masks} long known held read = record {
+    has = λ s l few below.
+        by-cases (ℕ-discrete s r)
+        (λ same. rw (same, getD-set-same masks r mask 0 (omega arith), lt-ltb r (r + 1) (omega arith)) (held .has l below))
+        (λ other. rw (getD-set-other masks r s mask 0 other)
+        (read .has s l few below ∙ below-same r s (ltb l labels && marks (getD readers l 0) s) other));
+  }
 
   pub all-read : {labels tasks : ℕ} {masks : List ℕ} → ReadLabels (min labels 64) (min tasks 32) readers masks
       → ReadLabels labels tasks readers masks
-  all-read {labels} {tasks} read = record { has = λ r l known few.
-      read .has r l known few
-      ∙ ap₂ (λ a b. a && (b && marks (getD readers l 0) r)) (same-tasks tasks r known) (same-labels labels l few) }
+  all-read {labels} {tasks} read = record {
+    has = λ r l known few.
+        read .has r l known few
+        ∙ ap₂ (λ a b. a && (b && marks (getD readers l 0) r)) (same-tasks tasks r known) (same-labels labels l few);
+  }

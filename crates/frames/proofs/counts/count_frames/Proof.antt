@@ -114,11 +114,11 @@ count-frames-spec =
     μ-loop
     loop-holds
     (λ c κs. let start = c .before .before .before .before .before .before in
-        omega (arith, start .pre, c .before .before .before .loop .inv .1))  -- instant-at-requires
+    omega (arith, start .pre, c .before .before .before .loop .inv .1))  -- instant-at-requires
     (λ c. omega arith)  -- add-frames
     (λ c. omega arith)  -- cast-copies
     (λ c. let inst = c .before .before .before .before .before in
-        omega (arith, inst .instant-at .ensures .1 .1 .0, at-loop inst .loop .inv .3))  -- add-copies
+    omega (arith, inst .instant-at .ensures .1 .1 .0, at-loop inst .loop .inv .3))  -- add-copies
     (λ c. kept (c .before .before .before .before .before .before) .0)  -- same-length
     (λ c. kept (c .before .before .before .before .before .before) .1)  -- same-length-2
     returns
