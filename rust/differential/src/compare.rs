@@ -3,8 +3,12 @@
 //! code have to speak against every one of these.
 
 use crate::faulty::{faulty, Program};
+use crate::independent::Independent;
+use crate::kind::Kind;
+use crate::listings::{rooms, Listings};
+use crate::question::Question;
 use crate::run::run;
-use crate::said::{by_proved_code, Independent};
+use crate::said::by_proved_code;
 use crate::tally::Tally;
 
 pub struct Comparison {
@@ -19,23 +23,37 @@ impl Comparison {
     pub fn passed(&self) -> bool {
         self.tally.passed() && self.not_found_out.is_empty()
     }
-}
 
-/// A run of at least so many images.
-pub fn compare(seed: u64, least: u64) -> Comparison {
-    let mut tally = Tally::default();
-    let mut programs = faulty();
-    let mut independent = Independent::new();
-    let count = programs.len();
-    run(seed, least, &mut |kind, image, question| {
+    fn ask(&mut self, independent: &mut Independent, kind: Kind, image: &[u8], question: Question) {
         let proved = by_proved_code(image, question);
         let expected = independent.says(image, question);
-        programs.retain_mut(|program| {
+        let count = self.not_found_out.len();
+        self.not_found_out.retain_mut(|program| {
             let said = (program.says)(image, question, &proved);
             program.tally.take(kind, image, question, said, expected.clone());
             program.tally.differing == 0
         });
-        tally.take(kind, image, question, proved, expected);
+        self.found_out += count - self.not_found_out.len();
+        self.tally.take(kind, image, question, proved, expected);
+    }
+}
+
+/// A run of at least so many images. Each is also asked for listings.
+pub fn compare(seed: u64, least: u64) -> Comparison {
+    let mut comparison =
+        Comparison { tally: Tally::default(), found_out: 0, not_found_out: faulty() };
+    let mut independent = Independent::new();
+    let mut listings = Listings::default();
+    run(seed, least, &mut |kind, image, question| {
+        comparison.ask(&mut independent, kind, image, question);
+        if question == Question::Read {
+            for core in listings.cores(independent.table(image)) {
+                for room in rooms(core, independent.length(image, core)) {
+                    let question = Question::Listing { core, room };
+                    comparison.ask(&mut independent, kind, image, question);
+                }
+            }
+        }
     });
-    Comparison { tally, found_out: count - programs.len(), not_found_out: programs }
+    comparison
 }

@@ -9,7 +9,7 @@ use std::process::ExitCode;
 use std::time::Instant;
 
 use differential::compare::compare;
-use differential::tally::report;
+use differential::report::report;
 
 const COUNT: u64 = 300_000;
 const SEED: u64 = 1;

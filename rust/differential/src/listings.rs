@@ -1,0 +1,61 @@
+//! Which listings are asked for: of an accepted image those of every core, with the room exact, one
+//! byte less, some more and none, and of cores that it does not have; of a refused one some core's.
+//! The independent program takes long for some tables, so of the larger ones only as many are listed
+//! as have their share in the time.
+
+use independent::{Refusal, Table};
+
+/// The work up to which each table is listed, and the share of each larger one.
+const SMALL: u64 = 1_000;
+const SHARE: u64 = 100;
+
+#[derive(Default)]
+pub struct Listings {
+    /// The work that the larger tables have to their credit.
+    credit: u64,
+}
+
+impl Listings {
+    /// The cores that an image is asked for.
+    pub fn cores(&mut self, read: Result<&Table, Refusal>) -> Vec<u64> {
+        let Ok(table) = read else {
+            return vec![0];
+        };
+        let listed = if self.affords(work(table)) { table.cores } else { 0 };
+        (0..listed).chain([table.cores, 1 << 32]).collect()
+    }
+
+    fn affords(&mut self, work: u64) -> bool {
+        if work > SMALL {
+            self.credit += SHARE;
+            let Some(left) = self.credit.checked_sub(work) else {
+                return false;
+            };
+            self.credit = left;
+        }
+        true
+    }
+}
+
+/// About how long the independent program takes for all cores, a copy being 1.
+fn work(table: &Table) -> u64 {
+    let mut copies = 0;
+    for label in &table.labels {
+        for &reader in &label.readers {
+            let slower = table.tasks[label.writer].period.max(table.tasks[reader].period);
+            copies += 2 * table.hyperperiod / slower;
+        }
+    }
+    copies + table.hyperperiod * (table.labels.len() as u64 + table.cores) / 100
+}
+
+/// The rooms that are lent for the listing of a core, by its length.
+pub fn rooms(core: u64, length: Result<u64, Refusal>) -> Vec<usize> {
+    match length {
+        Ok(length) => {
+            let length = length as usize;
+            vec![length, length - 1, length + 1 + 7 * core as usize, 0]
+        }
+        Err(_) => vec![0, 40],
+    }
+}
