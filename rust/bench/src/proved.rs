@@ -13,7 +13,10 @@ pub fn read(image: &[u8]) -> Result<(), Refusal> {
 }
 
 pub type Listing = fn(&[u8], u64, &mut [u8]) -> Result<u64, Refusal>;
-pub const LISTING: Option<Listing> = None;
+
+pub fn listing(image: &[u8], core: u64, buffer: &mut [u8]) -> Result<u64, Refusal> {
+    liskobran::listing(image, core, buffer).map(|listing| listing.len() as u64).map_err(refused)
+}
 
 pub type AgesOf = fn(&[u8], u64) -> Result<Ages, Refusal>;
 pub const AGES: Option<AgesOf> = None;

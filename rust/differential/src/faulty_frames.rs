@@ -82,12 +82,10 @@ pub fn faulty_frames() -> Vec<Program> {
             copies.iter_mut().for_each(|copy| *copy &= 0x7ff);
         }),
         fields("an invented frame count", |listed| listed.count += 1),
-        fields("a frame count of 19 bits", |listed| listed.count %= 1 << 19),
         fields("a copy count of 11 bits", |listed| {
             listed.frames.iter_mut().for_each(|frame| frame.count %= 1 << 11);
         }),
         fields("core 0 in every head", |listed| listed.core = 0),
-        fields("an H of 19 bits", |listed| listed.round %= 1 << 19),
         ruled(
             "full copying",
             Rule {

@@ -51,6 +51,8 @@ pub fn faulty_listings() -> Vec<Program> {
                 *byte = 0;
             }
         }),
+        lent("an H of 19 bits", |lent, _, _| lent[0] &= 0xef),
+        lent("a frame count of 19 bits", |lent, _, _| lent[2] &= 0xfe),
         said("bytes written on 11", |said, _, core, _| {
             if let (11, Some(byte)) = (said.number, said.lent.first_mut()) {
                 *byte = (core << 5) as u8;

@@ -1,7 +1,7 @@
 //! What the independent program says. It reads an image once for all questions that follow one
 //! another, and lists a core once for all rooms.
 
-use independent::{listing_in, listing_length, points_in, read, Refusal, Table};
+use independent::{listing_in, listing_length_in, points_in, read, Refusal, Table};
 
 use crate::question::Question;
 use crate::said::Said;
@@ -41,7 +41,7 @@ impl Independent {
         self.table(image)?;
         if self.core != Some(core) {
             self.core = Some(core);
-            self.length = listing_length(image, core);
+            self.length = listing_length_in(self.table(image)?, core);
             self.listing.clear();
         }
         self.length

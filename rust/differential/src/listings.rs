@@ -21,8 +21,11 @@ impl Listings {
         let Ok(table) = read else {
             return vec![0];
         };
-        let listed = if self.affords(work(table)) { table.cores } else { 0 };
-        (0..listed).chain([table.cores, 1 << 32]).collect()
+        if self.affords(work(table)) {
+            (0..=table.cores).chain([1 << 32]).collect()
+        } else {
+            vec![table.cores]
+        }
     }
 
     fn affords(&mut self, work: u64) -> bool {
