@@ -1,7 +1,8 @@
 /*
  * Document 01's example image, asked through include/liskobran.h: accepted, with the points of its pair and the listings
- * of its cores; damaged as in "Numbers to test against", refused with the number and at the place given there; and no
- * image at all, said by a null pointer, refused as the empty one. Ends with status 0 where all is as the document says.
+ * of its cores and the ages of its chain; damaged as in "Numbers to test against", refused with the number and at the
+ * place given there; and no image at all, said by a null pointer, refused as the empty one. Ends with status 0 where all
+ * is as the document says.
  */
 #include <stdio.h>
 #include <string.h>
@@ -78,6 +79,27 @@ static void listings(const uint8_t *image)
     }
 }
 
+static void expect_ages(const uint8_t *image, size_t length, uint64_t chain, uint32_t number, const uint32_t ages[5])
+{
+    LiskobranAges answer = liskobran_ages(image, length, chain);
+    if (answer.number != number || answer.place != 0 || answer.paths != ages[0] || answer.longest != ages[1] ||
+        answer.worst != ages[2] || answer.best != ages[3] || answer.jitter != ages[4]) {
+        printf("ages of chain %llu: number %lu, place %llu, paths %lu, long %lu, worst %lu, best %lu, jitter %lu\n",
+               (unsigned long long)chain, (unsigned long)answer.number, (unsigned long long)answer.place,
+               (unsigned long)answer.paths, (unsigned long)answer.longest, (unsigned long)answer.worst,
+               (unsigned long)answer.best, (unsigned long)answer.jitter);
+        wrong = 1;
+    }
+}
+
+static void ages(const uint8_t *image)
+{
+    static const uint32_t chain_0[5] = {2, 1, 8, 7, 1}, none[5] = {0, 0, 0, 0, 0};
+    expect_ages(image, 16, 0, 0, chain_0);
+    expect_ages(image, 16, 1, 12, none);
+    expect_ages(NULL, 0, 0, 1, none);
+}
+
 int main(void)
 {
     uint8_t image[17] = {0x12, 0x08, 0x08, 0x40, 0x00, 0x01, 0x10, 0x00, 0x05,
@@ -94,6 +116,7 @@ int main(void)
     expect_points(image, 16, 0, 1, 1000001, 12, 0, 0);
     expect_points(NULL, 0, 0, 1, 1, 1, 0, 0);
     listings(image);
+    ages(image);
     image[15] = 0x21;
     expect_read("last byte 21", image, 16, 9, 127);
     if (!wrong) {

@@ -61,6 +61,18 @@ typedef struct LiskobranListing {
     uint64_t bytes;
 } LiskobranListing;
 
+/* The ages of a chain: how many basic paths, the longest length, the worst and the best age in ticks, and the worst less
+   the best (number 0), or refused. */
+typedef struct LiskobranAges {
+    uint32_t number;
+    uint64_t place;
+    uint32_t paths;
+    uint32_t longest;
+    uint32_t worst;
+    uint32_t best;
+    uint32_t jitter;
+} LiskobranAges;
+
 /*
  * The functions of the archive. They are proved of slices, whose address is not a null pointer even where the length is
  * 0. The functions below give them such an address: call those.
@@ -70,6 +82,7 @@ LiskobranPoints liskobran_points_slice(const uint8_t *image, size_t length, uint
                                        uint64_t n);
 LiskobranListing liskobran_listing_slice(const uint8_t *image, size_t length, uint64_t core, uint8_t *buffer,
                                          size_t room);
+LiskobranAges liskobran_ages_slice(const uint8_t *image, size_t length, uint64_t chain);
 
 /* An address for bytes of which there are none, read or lent: nothing is ever read or written there. */
 static inline uint8_t *liskobran_no_bytes(void)
@@ -105,6 +118,15 @@ static inline LiskobranListing liskobran_listing(const uint8_t *image, size_t le
 {
     return liskobran_listing_slice(length == 0 ? liskobran_no_bytes() : image, length, core,
                                    room == 0 ? liskobran_no_bytes() : buffer, room);
+}
+
+/*
+ * The ages of a chain of the image's table. Refused with the image's own number and place; with 12 where the chain is
+ * not in the table.
+ */
+static inline LiskobranAges liskobran_ages(const uint8_t *image, size_t length, uint64_t chain)
+{
+    return liskobran_ages_slice(length == 0 ? liskobran_no_bytes() : image, length, chain);
 }
 
 #ifdef __cplusplus

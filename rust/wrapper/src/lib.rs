@@ -25,6 +25,16 @@ pub struct Points {
     pub reading: u64,
 }
 
+/// The ages of a chain, in ticks, and how many basic paths it has.
+#[derive(Debug, Clone, Copy, PartialEq, Eq)]
+pub struct Ages {
+    pub paths: u32,
+    pub longest: u32,
+    pub worst: u32,
+    pub best: u32,
+    pub jitter: u32,
+}
+
 #[repr(C)]
 struct LiskobranAnswer {
     number: u32,
@@ -46,6 +56,17 @@ struct LiskobranListing {
     bytes: u64,
 }
 
+#[repr(C)]
+struct LiskobranAges {
+    number: u32,
+    place: u64,
+    paths: u32,
+    longest: u32,
+    worst: u32,
+    best: u32,
+    jitter: u32,
+}
+
 // SAFETY of each call: the functions require nothing but slices, each of which is an address that is
 // not null, even of no bytes, and the number of bytes that may be read there; of a lent buffer, which
 // shares no byte with the image, also written. They keep no pointer and write nowhere else.
@@ -65,6 +86,7 @@ extern "C" {
         buffer: *mut u8,
         room: usize,
     ) -> LiskobranListing;
+    fn liskobran_ages_slice(image: *const u8, length: usize, chain: u64) -> LiskobranAges;
 }
 
 /// Is the image accepted, or with which number and at which place is it refused?
@@ -89,4 +111,13 @@ pub fn listing<'a>(image: &[u8], core: u64, buffer: &'a mut [u8]) -> Result<&'a 
     let answer = unsafe { liskobran_listing_slice(image.as_ptr(), image.len(), core, lent, room) };
     unless_refused(answer.number, answer.place)?;
     Ok(&buffer[..answer.bytes as usize])
+}
+
+/// The ages of a chain.
+pub fn ages(image: &[u8], chain: u64) -> Result<Ages, Refusal> {
+    // SAFETY: a slice, as above; any chain may be asked.
+    let answer = unsafe { liskobran_ages_slice(image.as_ptr(), image.len(), chain) };
+    unless_refused(answer.number, answer.place)?;
+    let LiskobranAges { paths, longest, worst, best, jitter, .. } = answer;
+    Ok(Ages { paths, longest, worst, best, jitter })
 }

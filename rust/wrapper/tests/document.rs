@@ -1,8 +1,9 @@
-//! Document 01, "Numbers to test against", of images, points and listings, through the wrapper.
+//! Document 01, "Numbers to test against", of images, points, listings and ages, through the
+//! wrapper.
 
 #![forbid(unsafe_code)]
 
-use liskobran::{listing, points, read, Points, Refusal};
+use liskobran::{ages, listing, points, read, Ages, Points, Refusal};
 
 const EXAMPLE: [u8; 16] = [
     0x12, 0x08, 0x08, 0x40, 0x00, 0x01, 0x10, 0x00, 0x05, 0x02, 0x00, 0x00, 0x00, 0x01, 0x00, 0x20,
@@ -113,4 +114,31 @@ fn a_core_without_frames() {
     let image = packed(format!("00010010{:06b}{:07b}00000000{:020b}", 1, 0, 10));
     assert_eq!(listing(&image, 1, &mut [0xff; 6]), Ok(&[0x20, 0x00, 0x14, 0, 0, 0][..]));
     assert_eq!(listing(&image, 1, &mut [0xff; 5]), refused(11, 0));
+}
+
+/// One chain of tasks with the periods given, and a label for each of its steps.
+fn of_chain(periods: &[u32]) -> Vec<u8> {
+    let count = periods.len();
+    let mut bits = format!("00010001{count:06b}{:07b}00001", count - 1);
+    bits.extend(periods.iter().map(|period| format!("000{period:020b}")));
+    bits.extend((1..count).map(|task| format!("{:05b}{:032b}", task - 1, 1u32 << (31 - task))));
+    bits += &format!("{count:04b}");
+    bits.extend((0..count).map(|task| format!("{task:05b}")));
+    packed(bits)
+}
+
+#[test]
+fn the_ages_of_a_chain() {
+    for (image, [paths, longest, worst, best, jitter]) in [
+        (EXAMPLE.to_vec(), [2, 1, 8, 7, 1]),
+        (of_chain(&[3, 7, 3]), [3, 9, 21, 18, 3]),
+        (of_chain(&[5, 10, 20]), [1, 10, 35, 35, 0]),
+        (of_chain(&[5, 2]), [2, 1, 11, 10, 1]),
+    ] {
+        assert_eq!(ages(&image, 0), Ok(Ages { paths, longest, worst, best, jitter }));
+        assert_eq!(ages(&image, 1), refused(12, 0));
+        assert_eq!(ages(&image, 1 << 32), refused(12, 0));
+    }
+    assert_eq!(ages(&EXAMPLE[..15], 0), refused(1, 118));
+    assert_eq!(ages(&[], 0), refused(1, 0));
 }
