@@ -70,11 +70,11 @@ fn compare_listing(what: &str, table: &Description) -> Times {
 }
 
 /// All chains of a table.
-fn compare_ages(what: &str, table: &Description, by_proof: proved::AgesOf, plain: proved::AgesOf) {
+fn compare_ages(what: &str, table: &Description, plain: proved::AgesOf) {
     let image = table.image();
     let chains = table.chains.len() as u64;
     for chain in 0..=chains {
-        assert_eq!(by_proof(&image, chain), plain(&image, chain));
+        assert_eq!(proved::ages(&image, chain), plain(&image, chain));
     }
     let ask = |ages: proved::AgesOf| {
         let image = &image;
@@ -84,7 +84,7 @@ fn compare_ages(what: &str, table: &Description, by_proof: proved::AgesOf, plain
             }
         }
     };
-    print(&format!("{what}, ages"), times(ask(by_proof), ask(plain)));
+    print(&format!("{what}, ages"), times(ask(proved::ages), ask(plain)));
 }
 
 fn main() {
@@ -106,12 +106,10 @@ fn main() {
     let (proved, plain) = (long.proved / short.proved, long.plain / short.plain);
     println!("H a hundred times larger: proved {proved:.2} times, plain Rust {plain:.2} times");
 
-    if let Some(by_proof) = proved::AGES {
-        compare_ages(example, &tables::example(), by_proof, ages);
-        compare_ages("chain 3, 7, 3", &tables::of_three(), by_proof, ages);
-        compare_ages("a chain of 55,440 paths", &tables::most_paths(), by_proof, ages);
-        let (rare, what) = (tables::rare_paths(), "999 paths among 999,999 starts");
-        compare_ages(what, &rare, by_proof, ages);
-        compare_ages(&format!("{what}, each tried"), &rare, by_proof, ages_by_every_start);
-    }
+    compare_ages(example, &tables::example(), ages);
+    compare_ages("chain 3, 7, 3", &tables::of_three(), ages);
+    compare_ages("a chain of 55,440 paths", &tables::most_paths(), ages);
+    let (rare, what) = (tables::rare_paths(), "999 paths among 999,999 starts");
+    compare_ages(what, &rare, ages);
+    compare_ages(&format!("{what}, each tried"), &rare, ages_by_every_start);
 }

@@ -1,5 +1,4 @@
-//! The proved code's answers in the plain programs' form. What the archive has no function for yet
-//! is none.
+//! The proved code's answers in the plain programs' form.
 
 use plain::ages::Ages;
 use plain::reading::Refusal;
@@ -19,4 +18,9 @@ pub fn listing(image: &[u8], core: u64, buffer: &mut [u8]) -> Result<u64, Refusa
 }
 
 pub type AgesOf = fn(&[u8], u64) -> Result<Ages, Refusal>;
-pub const AGES: Option<AgesOf> = None;
+
+pub fn ages(image: &[u8], chain: u64) -> Result<Ages, Refusal> {
+    let liskobran::Ages { paths, longest, worst, best, jitter } =
+        liskobran::ages(image, chain).map_err(refused)?;
+    Ok(Ages { paths, longest, worst, best, jitter })
+}

@@ -2,13 +2,15 @@
 //! programs that are the proved code but for one fault each: the images that speak for the proved
 //! code have to speak against every one of these.
 
+use crate::chains::chains;
 use crate::faulty::{faulty, Program};
 use crate::independent::Independent;
 use crate::kind::Kind;
-use crate::listings::{rooms, Listings};
+use crate::listings::{cores, rooms};
 use crate::question::Question;
 use crate::run::run;
 use crate::said::by_proved_code;
+use crate::share::Share;
 use crate::tally::Tally;
 
 pub struct Comparison {
@@ -38,20 +40,24 @@ impl Comparison {
     }
 }
 
-/// A run of at least so many images. Each is also asked for listings.
+/// A run of at least so many images. Each is also asked for listings and ages.
 pub fn compare(seed: u64, least: u64) -> Comparison {
     let mut comparison =
         Comparison { tally: Tally::default(), found_out: 0, not_found_out: faulty() };
     let mut independent = Independent::new();
-    let mut listings = Listings::default();
+    let mut listings = Share::new(1_000, 100);
+    let mut ages = Share::new(2_000, 200);
     run(seed, least, &mut |kind, image, question| {
         comparison.ask(&mut independent, kind, image, question);
         if question == Question::Read {
-            for core in listings.cores(independent.table(image)) {
+            for core in cores(&mut listings, independent.table(image)) {
                 for room in rooms(core, independent.length(image, core)) {
                     let question = Question::Listing { core, room };
                     comparison.ask(&mut independent, kind, image, question);
                 }
+            }
+            for chain in chains(&mut ages, independent.table(image)) {
+                comparison.ask(&mut independent, kind, image, Question::Ages { chain });
             }
         }
     });

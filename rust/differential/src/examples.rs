@@ -94,3 +94,11 @@ pub fn longest_listing(visit: &mut Visit) {
     let table = Description { labels, ..Description::of_periods(&[1, 1, 1_000_000]) };
     visit(Kind::Valid, &table.image(), Question::Listing { core: 0, room: 7_000_006 });
 }
+
+/// A chain of 55,440 paths, which no chain exceeds, and one of 999 paths among 999,999 starts.
+pub fn longest_chains(visit: &mut Visit) {
+    for periods in [&[5, 7, 9, 11, 16, 17, 3, 2][..], &[1, 999, 1_001]] {
+        let image = Description::of_chain(periods).image();
+        visit(Kind::Valid, &image, Question::Ages { chain: 0 });
+    }
+}

@@ -1,5 +1,6 @@
 //! Programs that are the proved code but for one fault each.
 
+use crate::faulty_ages::faulty_ages;
 use crate::faulty_frames::faulty_frames;
 use crate::faulty_listings::faulty_listings;
 use crate::question::Question;
@@ -114,5 +115,6 @@ pub fn faulty() -> Vec<Program> {
     }
     programs.extend(faulty_listings());
     programs.extend(faulty_frames());
+    programs.extend(faulty_ages());
     programs
 }

@@ -1,7 +1,7 @@
 //! What the independent program says. It reads an image once for all questions that follow one
 //! another, and lists a core once for all rooms.
 
-use independent::{listing_in, listing_length_in, points_in, read, Refusal, Table};
+use independent::{ages_in, listing_in, listing_length_in, points_in, read, Refusal, Table};
 
 use crate::question::Question;
 use crate::said::Said;
@@ -68,6 +68,12 @@ impl Independent {
             Question::Points { writer, reader, n } => self.table(image).and_then(|table| {
                 points_in(table, writer, reader, n)
                     .map(|(publishing, reading)| Said::answered(&[publishing, reading]))
+            }),
+            Question::Ages { chain } => self.table(image).and_then(|table| {
+                ages_in(table, chain).map(|ages| {
+                    let values = [ages.paths, ages.longest, ages.worst, ages.best, ages.jitter];
+                    Said::answered(&values)
+                })
             }),
             Question::Listing { core, room } => {
                 self.listing(image, core, room).map(|listing| Said::listed(question, listing))

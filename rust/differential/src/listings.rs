@@ -1,46 +1,23 @@
 //! Which listings are asked for: of an accepted image those of every core, with the room exact, one
 //! byte less, some more and none, and of cores that it does not have; of a refused one some core's.
-//! The independent program takes long for some tables, so of the larger ones only as many are listed
-//! as have their share in the time.
 
 use independent::{Refusal, Table};
 
-/// The work up to which each table is listed, and the share of each larger one.
-const SMALL: u64 = 1_000;
-const SHARE: u64 = 100;
+use crate::share::Share;
 
-#[derive(Default)]
-pub struct Listings {
-    /// The work that the larger tables have to their credit.
-    credit: u64,
-}
-
-impl Listings {
-    /// The cores that an image is asked for.
-    pub fn cores(&mut self, read: Result<&Table, Refusal>) -> Vec<u64> {
-        let Ok(table) = read else {
-            return vec![0];
-        };
-        if self.affords(work(table)) {
-            (0..=table.cores).chain([1 << 32]).collect()
-        } else {
-            vec![table.cores]
-        }
-    }
-
-    fn affords(&mut self, work: u64) -> bool {
-        if work > SMALL {
-            self.credit += SHARE;
-            let Some(left) = self.credit.checked_sub(work) else {
-                return false;
-            };
-            self.credit = left;
-        }
-        true
+/// The cores that an image is asked for.
+pub fn cores(share: &mut Share, read: Result<&Table, Refusal>) -> Vec<u64> {
+    let Ok(table) = read else {
+        return vec![0];
+    };
+    if share.affords(work(table)) {
+        (0..=table.cores).chain([1 << 32]).collect()
+    } else {
+        vec![table.cores]
     }
 }
 
-/// About how long the independent program takes for all cores, a copy being 1.
+/// About how long the independent program takes for all cores, in copies.
 fn work(table: &Table) -> u64 {
     let mut copies = 0;
     for label in &table.labels {

@@ -13,18 +13,21 @@ pub enum Question {
     Points { writer: u64, reader: u64, n: u64 },
     /// The copy listing of a core, into a lent buffer of so many bytes.
     Listing { core: u64, room: usize },
+    /// The ages of a chain.
+    Ages { chain: u64 },
 }
 
 impl Question {
-    pub const WORDS: [&'static str; 3] = ["read", "points", "listing"];
+    pub const WORDS: [&'static str; 4] = ["read", "points", "listing", "ages"];
     /// The numbers that each question can give beyond those of an image alone.
-    pub const NUMBERS: [&'static [usize]; 3] = [&[], &[12, 13], &[11, 12]];
+    pub const NUMBERS: [&'static [usize]; 4] = [&[], &[12, 13], &[11, 12], &[12]];
 
     pub fn number(self) -> usize {
         match self {
             Question::Read => 0,
             Question::Points { .. } => 1,
             Question::Listing { .. } => 2,
+            Question::Ages { .. } => 3,
         }
     }
 

@@ -59,6 +59,9 @@ pub fn by_proved_code(image: &[u8], question: Question) -> Said {
         Question::Listing { core, .. } => {
             liskobran::listing(image, core, &mut lent).map(|listing| vec![listing.len() as u64])
         }
+        Question::Ages { chain } => liskobran::ages(image, chain).map(|ages| {
+            [ages.paths, ages.longest, ages.worst, ages.best, ages.jitter].map(u64::from).to_vec()
+        }),
     };
     Said::new(values.map_err(|refusal| (refusal.number, refusal.place)), lent)
 }
