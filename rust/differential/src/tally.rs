@@ -46,8 +46,8 @@ fn possible_lengths() -> BTreeSet<usize> {
 /// The largest number that an image alone can give.
 const OF_IMAGES: usize = 10;
 
-/// So many images are asked about for each core that is listed, at most.
-const FOR_A_CORE: u64 = 3;
+/// So many cores are listed at least, or one for every three images where there are fewer.
+const CORES: u64 = 100_000;
 
 impl Tally {
     pub fn images(&self) -> u64 {
@@ -95,8 +95,9 @@ impl Tally {
                 missing.push(format!("{}: number {number}", Question::WORDS[question]));
             }
         }
-        if FOR_A_CORE * self.cores < self.images() {
-            missing.push(format!("a core listed for every {FOR_A_CORE} images"));
+        let cores = CORES.min(self.images() / 3);
+        if self.cores < cores {
+            missing.push(format!("{cores} cores listed"));
         }
         let of_length = &possible_lengths() - &self.lengths;
         if !of_length.is_empty() {
