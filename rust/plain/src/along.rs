@@ -44,7 +44,7 @@ pub struct Along<'a> {
 }
 
 /// So many releases are taken together: nothing of one is needed for another.
-pub const TOGETHER: u32 = 16;
+pub const TOGETHER: u32 = 4;
 
 impl Along<'_> {
     /// Some releases that follow one another. No tick exceeds the round by more than two periods of
