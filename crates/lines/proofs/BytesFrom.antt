@@ -43,42 +43,42 @@ filled-none text held at =
     }
 
 module _ (text held : List ℕ) (at : ℕ) (room : List ℕ) (count end : ℕ) (filled : Filled text held at room count end)
-    where
-  -- the buffer stays as long as it was
-  pub filled-length : length room ≡ length held
-  filled-length = rw (filled .stored, length-over (filled .done) held)
+  where
+    -- the buffer stays as long as it was
+    pub filled-length : length room ≡ length held
+    filled-length = rw (filled .stored, length-over (filled .done) held)
 
-  -- one byte more
-  pub filled-more : count < length held → (byte : ℕ) → byte ≡ byteAt text end → byte < 256
-      → Filled text held at (set room count byte) (count + 1) (end + 3)
-  filled-more inside byte same small =
-      let left : length held - count ≡ suc (length held - (count + 1)) = omega arith in
-      record {
-        done = filled .done ++ byte ∷ [];
-        counted = simp length-append (omega (arith, filled .counted));
-        within = omega arith;
-        ended = omega (arith, filled .ended);
-        stored = rw (filled .stored, ← filled .counted) (over-more (filled .done) held byte);
-        rest =
-            filled .rest
-            ∙ rw (left, same, bytes-more text end _ (omega arith))
-            (sym (append-snoc (filled .done) (byteAt text end) _));
-      }
+    -- one byte more
+    pub filled-more : count < length held → (byte : ℕ) → byte ≡ byteAt text end → byte < 256
+        → Filled text held at (set room count byte) (count + 1) (end + 3)
+    filled-more inside byte same small =
+        let left : length held - count ≡ suc (length held - (count + 1)) = omega arith in
+        record {
+          done = filled .done ++ byte ∷ [];
+          counted = simp length-append (omega (arith, filled .counted));
+          within = omega arith;
+          ended = omega (arith, filled .ended);
+          stored = rw (filled .stored, ← filled .counted) (over-more (filled .done) held byte);
+          rest =
+              filled .rest
+              ∙ rw (left, same, bytes-more text end _ (omega arith))
+              (sym (append-snoc (filled .done) (byteAt text end) _));
+        }
 
-  -- the end: no byte stands there, or the buffer is full
-  pub filled-end : bytesFrom text (length held - count) end ≡ []
-      → (count ≡ length (bytesFrom text (length held) at)) × (room ≡ over (bytesFrom text (length held) at) held)
-  filled-end none =
-      let all : bytesFrom text (length held) at ≡ filled .done = filled .rest ∙ rw (none, append-nil) in
-      (sym (filled .counted) ∙ rw (← all), filled .stored ∙ rw (← all))
+    -- the end: no byte stands there, or the buffer is full
+    pub filled-end : bytesFrom text (length held - count) end ≡ []
+        → (count ≡ length (bytesFrom text (length held) at)) × (room ≡ over (bytesFrom text (length held) at) held)
+    filled-end none =
+        let all : bytesFrom text (length held) at ≡ filled .done = filled .rest ∙ rw (none, append-nil) in
+        (sym (filled .counted) ∙ rw (← all), filled .stored ∙ rw (← all))
 
-  pub filled-stopped : 256 ≤ byteAt text end
-      → (count ≡ length (bytesFrom text (length held) at)) × (room ≡ over (bytesFrom text (length held) at) held)
-  filled-stopped none = filled-end (bytes-end text end _ none)
+    pub filled-stopped : 256 ≤ byteAt text end
+        → (count ≡ length (bytesFrom text (length held) at)) × (room ≡ over (bytesFrom text (length held) at) held)
+    filled-stopped none = filled-end (bytes-end text end _ none)
 
-  pub filled-full : length held ≤ count
-      → (count ≡ length (bytesFrom text (length held) at)) × (room ≡ over (bytesFrom text (length held) at) held)
-  unfolding bytesFrom
-  filled-full full =
-      let nothing : length held - count ≡ 0 = omega arith in
-      filled-end (rw nothing)
+    pub filled-full : length held ≤ count
+        → (count ≡ length (bytesFrom text (length held) at)) × (room ≡ over (bytesFrom text (length held) at) held)
+    unfolding bytesFrom
+    filled-full full =
+        let nothing : length held - count ≡ 0 = omega arith in
+        filled-end (rw nothing)

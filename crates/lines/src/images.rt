@@ -34,6 +34,7 @@ fn byte_at(text: &[u8], at: usize) -> u32
 // Bytes, each after one space, as many as stand there and as there is room for. The bytes after them keep their values.
 pub fn bytes_at(text: &[u8], at: usize, room: &mut [u8]) -> Bytes
     ensures counted { λ r. ⌜ r .count ≡ length (bytesFrom (now (text .entry)) (length (now (room .entry))) at) ⌝ }
+    ensures within { λ r. ⌜ r .count ≤ length (now (room .exit)) ⌝ }
     ensures ended { λ r. ⌜ r .end ≡ at + 3 * r .count ⌝ }
     ensures lent { λ r. ⌜ now (room .exit)
         ≡ over (bytesFrom (now (text .entry)) (length (now (room .entry))) at) (now (room .entry)) ⌝ }

@@ -33,7 +33,7 @@ returns c =
     let filled = c .before .before .before .loop .inv in
     let none = c .if1 .taken in
     let all = filled-stopped _ _ _ _ _ _ filled (omega (arith, c .before .byte-at .ensures)) in
-    (all .0, (filled .ended, all .1))
+    (all .0, (omega (arith, filled .within, long (c .before .before .before)), (filled .ended, all .1)))
 
 slice-write-room : tie.Need-slice-write-room Inv-loop μ-loop
 slice-write-room c = c .before .before .loop-test .taken
@@ -61,7 +61,7 @@ returns-2 : tie.Need-returns-2 Inv-loop μ-loop
 returns-2 c =
     let filled = c .before .loop .inv in
     let all = filled-full _ _ _ _ _ _ filled (omega (arith, long (c .before), c .loop-test .left)) in
-    (all .0, (filled .ended, all .1))
+    (all .0, (omega (arith, filled .within, long (c .before)), (filled .ended, all .1)))
 
 pub bytes-at-spec : {M : Type 1} → statement M
 bytes-at-spec =

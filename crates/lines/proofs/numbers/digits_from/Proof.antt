@@ -61,14 +61,15 @@ loop-again c =
     let loop = c .before .before .before .loop in
     let text = now (c .before .before .before .before .before .args .text) in
     let further : 18 - (loop .left - 1) ≡ suc (18 - loop .left) = omega arith in
-    let next : loop .left ≡ suc (loop .left - 1) = omega arith in
-    (omega arith,
-    rw (further, pow-suc) (omega (arith, loop .inv .1)),
-    loop .inv .2
-    ∙ ap (λ n. digitsFrom text n (loop .end) (loop .value)) next
-    ∙ digits-more text (loop .end) (loop .value) (loop .left - 1) (digit-there c)
-    ∙ ap (λ d. digitsFrom text (loop .left - 1) (loop .end + 1) (10 * loop .value + d))
-    (sym (c .before .digit-at .ensures)))
+    let next : loop .left ≡ suc (loop .left - 1) = omega arith in (
+      omega arith,
+      rw (further, pow-suc) (omega (arith, loop .inv .1)),
+      loop .inv .2
+          ∙ ap (λ n. digitsFrom text n (loop .end) (loop .value)) next
+          ∙ digits-more text (loop .end) (loop .value) (loop .left - 1) (digit-there c)
+          ∙ ap (λ d. digitsFrom text (loop .left - 1) (loop .end + 1) (10 * loop .value + d))
+          (sym (c .before .digit-at .ensures)),
+    )
 
 returns-2 : tie.Need-returns-2 Inv-loop μ-loop
 unfolding digitsFrom

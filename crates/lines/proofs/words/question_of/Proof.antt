@@ -21,11 +21,12 @@ returns-5 : tie.Need-returns-5
 returns-5 c =
     let image = c .before .before .before .before .before .before .before .before .before in
     let points = c .before .before .before .before .before .before in
-    let listing = c .before .before .before in
-    ((λ is. false≢true (sym (image .if1 .left) ∙ image .before .same .ensures .1 is)),
-    (λ is. false≢true (sym (points .if2 .left) ∙ points .before .same2 .ensures .1 is)),
-    (λ is. false≢true (sym (listing .if3 .left) ∙ listing .before .same3 .ensures .1 is)),
-    (λ is. false≢true (sym (c .if4 .left) ∙ c .before .same4 .ensures .1 is)))
+    let listing = c .before .before .before in (
+      (λ is. false≢true (sym (image .if1 .left) ∙ image .before .same .ensures .1 is)),
+      (λ is. false≢true (sym (points .if2 .left) ∙ points .before .same2 .ensures .1 is)),
+      (λ is. false≢true (sym (listing .if3 .left) ∙ listing .before .same3 .ensures .1 is)),
+      (λ is. false≢true (sym (c .if4 .left) ∙ c .before .same4 .ensures .1 is)),
+    )
 
 pub question-of-spec : {M : Type 1} → statement M
 question-of-spec =
