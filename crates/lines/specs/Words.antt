@@ -29,3 +29,11 @@ Goes Listing part = part ≡ listingWord
 Goes Directly part = part ≡ directlyWord
 Goes Unknown part =
     ¬ (part ≡ imageWord) × ¬ (part ≡ pointsWord) × ¬ (part ≡ listingWord) × ¬ (part ≡ directlyWord)
+
+-- how many numbers a question has: a listing core and room, points a writer, a reader and n
+abbrev pub askedBy : Question → ℕ
+askedBy Image = 0
+askedBy Points = 3
+askedBy Listing = 2
+askedBy Directly = 3
+askedBy Unknown = 0

@@ -1,5 +1,6 @@
 // The word that a question goes by, after one space.
-ghost use Rattle.lines.specs.Words.{Goes};
+ghost use Rattle.lines.specs.Words.{Goes, askedBy};
+ghost use mathlib.Core.Path.{_≡_};
 
 // What a case asks: of an image its hyperperiod or refusal, points or a listing; or directly the points of two periods.
 pub enum Question {
@@ -27,4 +28,17 @@ pub fn question_of(part: &[u8]) -> Question
         return Question::Directly;
     }
     Question::Unknown
+}
+
+// How many numbers a question has.
+pub fn asked_by(question: Question) -> u32
+    ensures { λ r. ⌜ r ≡ askedBy question ⌝ }
+{
+    match question {
+        Question::Image => 0,
+        Question::Points => 3,
+        Question::Listing => 2,
+        Question::Directly => 3,
+        Question::Unknown => 0,
+    }
 }
