@@ -23,8 +23,8 @@ fn ask_image(image: &[u8]) {
 }
 
 // The points of two tasks of an image.
-fn ask_points(image: &[u8], writer: u64, reader: u64, n: u64) {
-    match questions::points(image, writer, reader, n) {
+fn ask_points(image: &[u8], writer: u32, reader: u32, n: u32) {
+    match questions::points(image, writer as u64, reader as u64, n as u64) {
         PointsAnswer::Points {
             publishing,
             reading,
@@ -37,8 +37,8 @@ fn ask_points(image: &[u8], writer: u64, reader: u64, n: u64) {
 }
 
 // The listing of a core of an image, in a lent buffer.
-fn list_in(image: &[u8], core: u64, buffer: &mut [u8]) {
-    match questions::listing(image, core, buffer) {
+fn list_in(image: &[u8], core: u32, buffer: &mut [u8]) {
+    match questions::listing(image, core as u64, buffer) {
         ListingAnswer::Listed { bytes } => {
             if bytes <= buffer.len() {
                 tell_bytes(&buffer[0..bytes]);
@@ -49,7 +49,7 @@ fn list_in(image: &[u8], core: u64, buffer: &mut [u8]) {
 }
 
 // The same where `room` bytes are lent.
-fn ask_listing(image: &[u8], core: u64, room: u64) {
+fn ask_listing(image: &[u8], core: u32, room: u32) {
     if room <= 1024 {
         let mut buffer = [0u8; 1024];
         let size = room as usize;
@@ -60,23 +60,15 @@ fn ask_listing(image: &[u8], core: u64, room: u64) {
 }
 
 // The points of two periods, without an image.
-fn ask_directly(writer: u64, reader: u64, n: u64) {
-    if writer <= 4_294_967_295 {
-        if reader <= 4_294_967_295 {
-            if n <= 4_294_967_295 {
-                let of_writer = Timing {
-                    period: writer as u32,
-                };
-                let of_reader = Timing {
-                    period: reader as u32,
-                };
-                tell(times::points::publishing(of_writer, of_reader, n as u32));
-                tell(times::points::reading(of_writer, of_reader, n as u32));
-                return;
-            }
-        }
-    }
-    complain();
+fn ask_directly(writer_period: u32, reader_period: u32, n: u32) {
+    let writer = Timing {
+        period: writer_period,
+    };
+    let reader = Timing {
+        period: reader_period,
+    };
+    tell(times::points::publishing(writer, reader, n));
+    tell(times::points::reading(writer, reader, n));
 }
 
 // The answer to a question.

@@ -16,11 +16,11 @@ digitsFrom text (suc most) at value =
     (digitsFrom text most (at + 1) (10 * value + digitAt text at))
     (record { value = value; end = at })
 
--- a space at this place, and then a number of 1 to 18 digits; where they are missing it ends past every text
+-- a space at this place, and then a number of 1 to 9 digits; where they are missing it ends past every text
 unfoldable pub numberAt : (text : List ℕ) (at : ℕ) → Number
 numberAt text at =
     cond (spaceAt text at && ltb (digitAt text (at + 1)) 10)
-    (digitsFrom text 18 (at + 1) 0)
+    (digitsFrom text 9 (at + 1) 0)
     (record { value = 0; end = 2 ^ 64 - 1 })
 
 -- the same where it is asked for; else 0, which takes no place

@@ -9,31 +9,31 @@ const NOWHERE: usize = 18446744073709551615;
 
 // A number, and where it ends.
 pub struct Number {
-    pub value: u64,
+    pub value: u32,
     pub end: usize,
 }
 
 // Up to three numbers, and where they end; 0 stands for those that were not asked for.
 pub struct Numbers {
-    pub first: u64,
-    pub second: u64,
-    pub third: u64,
+    pub first: u32,
+    pub second: u32,
+    pub third: u32,
     pub end: usize,
 }
 
-// The number that the digits from a place on write, at most 18 of them.
+// The number that the digits from a place on write, at most 9 of them.
 fn digits_from(text: &[u8], at: usize) -> Number
-    ensures { λ r. ⌜ r ≡ digitsFrom (now (text .entry)) 18 at 0 ⌝ }
+    ensures { λ r. ⌜ r ≡ digitsFrom (now (text .entry)) 9 at 0 ⌝ }
 {
-    let mut value: u64 = 0;
+    let mut value: u32 = 0;
     let mut end = at;
-    let mut left: u32 = 18;
+    let mut left: u32 = 9;
     while 0 < left {
         let digit = digit_at(text, end);
         if 9 < digit {
             return Number { value, end };
         }
-        value = 10 * value + digit as u64;
+        value = 10 * value + digit as u32;
         end += 1;
         left -= 1;
     }
@@ -41,7 +41,7 @@ fn digits_from(text: &[u8], at: usize) -> Number
 }
 
 // A space and a number after it.
-pub fn number_at(text: &[u8], at: usize) -> Number
+fn number_at(text: &[u8], at: usize) -> Number
     ensures { λ r. ⌜ r ≡ numberAt (now (text .entry)) at ⌝ }
 {
     if spaced(text, at) {

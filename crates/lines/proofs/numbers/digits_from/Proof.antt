@@ -15,9 +15,9 @@ use Rattle.lines.proofs.numbers.digits_from.Tie as tie
 
 abbrev Inv-loop : tie.InvT-loop
 Inv-loop text at value₀ end₀ left₀ value end left =
-    (left ≤ 18)
-    × (value < 10 ^ (18 - left))
-    × (digitsFrom text 18 at 0 ≡ digitsFrom text left end value)
+    (left ≤ 9)
+    × (value < 10 ^ (9 - left))
+    × (digitsFrom text 9 at 0 ≡ digitsFrom text left end value)
 
 abbrev μ-loop : tie.MeasureT-loop
 μ-loop text at value₀ end₀ left₀ value end left = left
@@ -37,11 +37,11 @@ digit-there : (c : tie.Else1 Inv-loop μ-loop) → let loop = c .before .before 
     digitAt (now (args .text)) (loop .end) < 10
 digit-there c = omega (arith, c .before .digit-at .ensures, c .if1 .left)
 
--- before the last digit there are fewer than 18
-few : (c : tie.Else1 Inv-loop μ-loop) → c .before .before .before .loop .value < 10 ^ 17
+-- before the last digit there are fewer than 9
+few : (c : tie.Else1 Inv-loop μ-loop) → c .before .before .before .loop .value < 10 ^ 8
 few c =
     let loop = c .before .before .before .loop in
-    let fewer : 10 ^ (18 - loop .left) ≤ 10 ^ 17 = pow-le-pow-right (omega arith) {j = 17} (omega arith) in
+    let fewer : 10 ^ (9 - loop .left) ≤ 10 ^ 8 = pow-le-pow-right (omega arith) {j = 8} (omega arith) in
     omega (arith, loop .inv .1)
 
 mul-value : tie.Need-mul-value Inv-loop μ-loop
@@ -60,7 +60,7 @@ loop-again : tie.Need-loop-again Inv-loop μ-loop
 loop-again c =
     let loop = c .before .before .before .loop in
     let text = now (c .before .before .before .before .before .args .text) in
-    let further : 18 - (loop .left - 1) ≡ suc (18 - loop .left) = omega arith in
+    let further : 9 - (loop .left - 1) ≡ suc (9 - loop .left) = omega arith in
     let next : loop .left ≡ suc (loop .left - 1) = omega arith in (
       omega arith,
       rw (further, pow-suc) (omega (arith, loop .inv .1)),

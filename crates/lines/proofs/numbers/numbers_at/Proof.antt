@@ -7,7 +7,7 @@ use Rattle.lines.proofs.numbers.numbers_at.Tie as tie
 returns : tie.Need-returns
 unfolding numbersAt
 returns c =
-    rw (← c .before .before .number-if .ensures, ← c .before .number-if2 .ensures, ← c .number-if3 .ensures)
+    rw (c .number-if3 .ensures, c .before .number-if2 .ensures, c .before .before .number-if .ensures)
 
 pub numbers-at-spec : {M : Type 1} → statement M
 numbers-at-spec =
