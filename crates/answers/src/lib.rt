@@ -1,13 +1,10 @@
-// A case's question, put to the proved libraries, and the words that tell the answer: for the program that runs the
-// cases. Each function writes to standard output, and no contract can say what.
-mod telling;
-
+// A case's question, put to the proved libraries, and the answer told, for the program that runs the cases.
 use lines::numbers::Numbers;
 use lines::words::Question;
 use printing::HyperperiodAnswer;
 use questions::ListingAnswer;
 use questions::PointsAnswer;
-pub use telling::complain;
+use telling::complain;
 use telling::tell;
 use telling::tell_bytes;
 use telling::tell_hyperperiod;

@@ -8,7 +8,6 @@
 // remark. Of each case the name is printed, a colon, and what the proved libraries answer. The file `stdout` has what
 // document 01 says.
 use answers::answer;
-use answers::complain;
 use libc::STDIN_FILENO;
 use libc::STDOUT_FILENO;
 use lines::images::bytes_at;
@@ -16,6 +15,7 @@ use lines::numbers::numbers_at;
 use lines::words::Question;
 use lines::words::asked_by;
 use lines::words::question_of;
+use telling::complain;
 
 // A question whose numbers start at a place of a line; its image ends with the line.
 fn ask_with(line: &[u8], at: usize, question: Question) {

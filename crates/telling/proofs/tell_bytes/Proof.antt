@@ -1,10 +1,10 @@
--- `answers::telling::tell_bytes` is safe and ends. The measure is the number of bytes left. Assumes nothing.
+-- `telling::tell_bytes` is safe and ends. The measure is the number of bytes left. Assumes nothing.
 use Prim.Native.Nat.{_-_}
 use native.Mathlib.Omega.{arith}
 use borrow.Author.Needs.{needs}
 use lib.ListN.{length}
-use Rattle.answers.proofs.telling.tell_bytes.Statement.{statement}
-use Rattle.answers.proofs.telling.tell_bytes.Tie as tie
+use Rattle.telling.proofs.tell_bytes.Statement.{statement}
+use Rattle.telling.proofs.tell_bytes.Tie as tie
 
 abbrev Inv-loop : tie.InvT-loop
 Inv-loop bytes i₀ i = Unit {0}

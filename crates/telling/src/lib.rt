@@ -1,9 +1,10 @@
-// The words that tell an answer, each after a space.
+// The words that tell an answer, each after a space, for the program that runs the cases. They are written to standard
+// output, and no contract can say what is written.
 use libc::STDOUT_FILENO;
 use table::Refusal;
 
 // A number.
-pub(crate) fn tell(number: u64) {
+pub fn tell(number: u64) {
     io::write_all(STDOUT_FILENO, b" ");
     io::print_decimal(STDOUT_FILENO, number);
 }
@@ -13,13 +14,13 @@ pub fn complain() {
     io::write_all(STDOUT_FILENO, b" not understood");
 }
 
-pub(crate) fn tell_refusal(refusal: Refusal, place: usize) {
+pub fn tell_refusal(refusal: Refusal, place: usize) {
     io::write_all(STDOUT_FILENO, b" refused");
     tell(table::number_of(refusal) as u64);
     tell(place as u64);
 }
 
-pub(crate) fn tell_hyperperiod(ticks: u32) {
+pub fn tell_hyperperiod(ticks: u32) {
     io::write_all(STDOUT_FILENO, b" hyperperiod");
     tell(ticks as u64);
 }
@@ -31,7 +32,7 @@ fn tell_byte(byte: u8) {
 }
 
 // Bytes as document 01 writes them.
-pub(crate) fn tell_bytes(bytes: &[u8]) {
+pub fn tell_bytes(bytes: &[u8]) {
     let mut i: usize = 0;
     while i < bytes.len() {
         tell_byte(bytes[i]);
