@@ -1,0 +1,6 @@
+-- Laws of the crate, for the functions here and for the crates above.
+pub mod Backwards
+pub mod Ends
+mod GoneBack
+pub mod Starts
+pub mod Tasks
