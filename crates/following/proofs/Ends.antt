@@ -86,6 +86,17 @@ module _ (periods : List ℕ) where
           length-tasks periods 1 (count - 1),
         )
 
+    pub end-from-soon : (x : ℕ) → endFrom periods at count x ≤ x + 16000000
+    unfolding endFrom
+    end-from-soon x =
+        let n = count - (at + 1) in
+        omega (
+          arith,
+          right .few,
+          passed-soon (tasksFrom periods (at + 1) n) (tasks-in-range periods right (at + 1) n (omega arith)) x,
+          length-tasks periods (at + 1) n,
+        )
+
     pub passed-at-soon : (t : ℕ) → passed (tasksFrom periods 1 at) t ≤ t + 16000000
     passed-at-soon t =
         omega (
