@@ -8,7 +8,8 @@ use Rattle.table.specs.Rules.{FromTo}
 use Rattle.following.specs.Following.{lastStart}
 use Rattle.paths.specs.Walks.{Walking}
 use Rattle.paths.proofs.Inside.{instant-near}
-use Rattle.paths.proofs.Turns.{published-again, passes-on, no-start, path-fits, same-end, new-path}
+use Rattle.paths.proofs.PathTurns.{same-end, new-path}
+use Rattle.paths.proofs.Turns.{published-again, passes-on, no-start, path-fits}
 use Rattle.paths.proofs.steps.step.Statement.{statement}
 use Rattle.paths.proofs.steps.step.Tie as tie
 
