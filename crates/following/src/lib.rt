@@ -5,6 +5,7 @@ ghost use Prim.Native.Nat.{_≤_, _-_};
 ghost use Rattle.following.specs.Following.{tasksFrom, passed, lastStart, endFrom};
 ghost use Rattle.following.specs.Following.{RightPeriods, PublishedAt, PassesOn};
 
+pub mod periods;
 mod releases;
 
 use releases::last_to;
