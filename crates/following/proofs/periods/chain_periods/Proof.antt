@@ -30,7 +30,7 @@ loop-again c =
     )
 
 returns : tie.Need-returns Inv-loop μ-loop
-returns c = λ j below. c .before .loop .inv .2 j (omega arith)
+returns c = (c .before .loop .inv .1, λ j below. c .before .loop .inv .2 j (omega arith))
 
 pub chain-periods-spec : {M : Type 1} → statement M
 chain-periods-spec =
