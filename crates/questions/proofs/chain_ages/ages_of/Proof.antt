@@ -54,9 +54,12 @@ sub-t19 c =
     let found = counted .before .before .before in
     let known = found .before .before .before .before in
     let args = known .before .args in
-    best-first (args .table) (args .t2) (args .chain) (known .before .pre) (known .if1 .left)
-    (found .chain-periods .result) (found .chain-periods .ensures .0) (found .chain-periods .ensures .1)
-    (is-round (counted .before .before)) (counted .count-paths .ensures)
+    omega (
+      arith,
+      best-first (args .table) (args .t2) (args .chain) (known .before .pre) (known .if1 .left)
+          (found .chain-periods .result) (found .chain-periods .ensures .0) (found .chain-periods .ensures .1)
+          (is-round (counted .before .before)) (counted .count-paths .ensures),
+    )
 
 returns-2 : tie.Need-returns-2
 returns-2 c =
