@@ -3,7 +3,9 @@
 -- nothing.
 use Prim.Native.Nat.{ℕ}
 use Rattle.outcomes.specs.Outcome.{Outcome, gives, refuses}
+use Rattle.ages.specs.Ages.{Ages}
 use Rattle.questions.specs.Questions.{Points}
+use Rattle.capi.specs.declared.LiskobranAges.{LiskobranAges}
 use Rattle.capi.specs.declared.LiskobranAnswer.{LiskobranAnswer}
 use Rattle.capi.specs.declared.LiskobranListing.{LiskobranListing}
 use Rattle.capi.specs.declared.LiskobranPoints.{LiskobranPoints}
@@ -23,3 +25,17 @@ pointsSaid (refuses number place) = record { number = number; place = place; pub
 unfoldable pub listingSaid : Outcome ℕ → LiskobranListing
 listingSaid (gives bytes) = record { number = 0; place = 0; bytes = bytes }
 listingSaid (refuses number place) = record { number = number; place = place; bytes = 0 }
+
+-- the ages of a chain
+unfoldable pub agesSaid : Outcome Ages → LiskobranAges
+agesSaid (gives ages) = record {
+  number = 0;
+  place = 0;
+  paths = ages .paths;
+  longest = ages .longest;
+  worst = ages .worst;
+  best = ages .best;
+  jitter = ages .jitter;
+}
+agesSaid (refuses number place) =
+    record { number = number; place = place; paths = 0; longest = 0; worst = 0; best = 0; jitter = 0 }

@@ -13,6 +13,8 @@ pub mod PointsRepeat
 mod Products
 pub mod PublishingTest
 pub mod ReadingTest
+pub mod ReleaseNumbers
 pub mod Releases
 pub mod ReleasesRepeat
+pub mod ReleasesRise
 pub mod ReleasesWithin
