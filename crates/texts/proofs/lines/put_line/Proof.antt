@@ -1,6 +1,6 @@
 -- `texts::lines::put_line` meets its contract. Assumes nothing.
 use borrow.Author.Needs.{needs}
-use Rattle.texts.proofs.Putting.{puts-then}
+use Rattle.texts.proofs.Putting.{puts-then, puts-length}
 use Rattle.texts.proofs.lines.put_line.Statement.{statement}
 use Rattle.texts.proofs.lines.put_line.Tie as tie
 
@@ -15,5 +15,5 @@ put-line-spec =
     (tie.spec
     (λ c κs. search needs)  -- put-named-requires
     (λ c κs. search needs)  -- put-byte-requires
-    (λ c. search needs)  -- same-length
+    (λ c. puts-length (returns c))  -- same-length
     returns)

@@ -1,7 +1,7 @@
 -- `texts::lines::put_refusal` meets its contract. Assumes nothing.
 use borrow.Author.Needs.{needs}
 use Rattle.printing.specs.Printed.{textOf}
-use Rattle.texts.proofs.Putting.{puts-then}
+use Rattle.texts.proofs.Putting.{puts-then, puts-length}
 use Rattle.texts.proofs.lines.put_refusal.Statement.{statement}
 use Rattle.texts.proofs.lines.put_refusal.Tie as tie
 
@@ -23,5 +23,5 @@ put-refusal-spec =
     (λ c κs. search needs)  -- put-byte-requires
     (λ c κs. search needs)  -- put-number-requires
     (λ c κs. search needs)  -- put-byte-requires-2
-    (λ c. search needs)  -- same-length
+    (λ c. puts-length (returns c))  -- same-length
     returns)

@@ -1,7 +1,7 @@
 -- `texts::puts::put_named` meets its contract. Assumes nothing.
 use borrow.Author.Needs.{needs}
 use Rattle.printing.specs.Words.{named}
-use Rattle.texts.proofs.Putting.{puts-then}
+use Rattle.texts.proofs.Putting.{puts-then, puts-length}
 use Rattle.texts.proofs.puts.put_named.Statement.{statement}
 use Rattle.texts.proofs.puts.put_named.Tie as tie
 
@@ -20,5 +20,5 @@ put-named-spec =
     (λ c κs. search needs)  -- put-word-requires
     (λ c κs. search needs)  -- put-byte-requires
     (λ c κs. search needs)  -- put-number-requires
-    (λ c. search needs)  -- same-length
+    (λ c. puts-length (returns c))  -- same-length
     returns)
