@@ -1,5 +1,5 @@
 // The text of a core, made in lent bytes (document 01, The printing program): its own line and the lines of its frames,
-// gone through from point to point; and whether the listings of all cores are short enough to be printed.
+// gone through from point to point.
 ghost use Rattle.copies.specs.Listing.{coreListing};
 ghost use Rattle.frames.specs.Counts.{RightRound};
 ghost use Rattle.printing.specs.Printed.{coreText};
