@@ -1,3 +1,4 @@
 -- Laws of this crate.
 mod CoreAfterCore
 mod ListingLong
+pub mod Room
