@@ -1,4 +1,4 @@
 -- Laws of this crate.
-mod CoreAfterCore
+pub mod EachPut
 mod ListingLong
 pub mod Room

@@ -10,7 +10,7 @@ use Rattle.copies.specs.Listing.{coreListing}
 use Rattle.frames.specs.Counts.{RightRound}
 use Rattle.printing.specs.Printed.{coreText}
 use Rattle.texts.specs.Puts.{PutsText}
-use Rattle.table_texts.proofs.CoreAfterCore.{no-core, more-cores}
+use Rattle.table_texts.proofs.EachPut.{none-put, one-more-put}
 use Rattle.table_texts.proofs.put_cores.Statement.{statement}
 use Rattle.table_texts.proofs.put_cores.Tie as tie
 
@@ -23,7 +23,7 @@ abbrev μ-loop : tie.MeasureT-loop
 μ-loop bytes₀ at table round cores next₀ core₀ bytes next core = 8 - core
 
 loop-holds : tie.Need-loop-holds Inv-loop μ-loop
-loop-holds c = (omega arith, omega arith, refl, λ right. no-core _ _ _)
+loop-holds c = (omega arith, omega arith, refl, λ right. none-put _ _ _)
 
 returns : tie.Need-returns Inv-loop μ-loop
 returns c right =
@@ -38,7 +38,7 @@ loop-again c =
       omega arith,
       omega arith,
       c .before .bytes .given ∙ turn .loop .inv .2,
-      λ right. more-cores _ (turn .loop .core) (turn .loop .inv .3 right) (put .put-core-text .ensures right),
+      λ right. one-more-put _ (turn .loop .core) (turn .loop .inv .3 right) (put .put-core-text .ensures right),
     )
 
 returns-2 : tie.Need-returns-2 Inv-loop μ-loop

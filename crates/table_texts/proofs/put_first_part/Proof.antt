@@ -1,6 +1,6 @@
 -- `table_texts::put_first_part` meets its contract. Assumes nothing.
 use borrow.Author.Needs.{needs}
-use Rattle.table_texts.proofs.CoreAfterCore.{first-part}
+use Rattle.table_texts.proofs.EachPut.{first-part}
 use Rattle.table_texts.proofs.put_first_part.Statement.{statement}
 use Rattle.table_texts.proofs.put_first_part.Tie as tie
 

@@ -11,7 +11,7 @@ use Rattle.lists.specs.Lists.{someBelow}
 use Rattle.lists.proofs.Lists.{someBelow-found}
 use Rattle.copies.specs.Listing.{listingOf}
 use Rattle.frames.specs.Counts.{RightRound}
-use Rattle.table_texts.proofs.CoreAfterCore.{none-tested, more-fail}
+use Rattle.table_texts.proofs.EachPut.{none-tested, more-fail}
 use Rattle.table_texts.proofs.lengths.some_too_long.Statement.{statement}
 use Rattle.table_texts.proofs.lengths.some_too_long.Tie as tie
 

@@ -1,5 +1,5 @@
--- Core after core: texts put one after the other, and a test that none has passed yet. No contract cites this file.
--- Assumes nothing.
+-- Texts of the numbers below a bound, of cores or of chains, put one after the other; and a test that none has passed
+-- yet. No contract cites this file. Assumes nothing.
 use Prim.Native.Nat.{ℕ, _+_}
 use mathlib.Core.Bool.{Bool, false}
 use mathlib.Core.Path.{_≡_, refl}
@@ -11,19 +11,19 @@ use Rattle.texts.specs.Puts.{PutsText}
 use Rattle.texts.proofs.Putting.{puts-nothing, puts-then}
 
 module _ (text : ℕ → List ℕ) where
-  -- no core yet, and one core more
-  pub no-core : (held : List ℕ) (at : ℕ) → PutsText held held at at (eachBelow 0 text)
+  -- none yet, and one more
+  pub none-put : (held : List ℕ) (at : ℕ) → PutsText held held at at (eachBelow 0 text)
   unfolding eachBelow
-  no-core held at = puts-nothing held at
+  none-put held at = puts-nothing held at
 
-  pub more-cores : {held middle bytes : List ℕ} {at next last : ℕ} (core : ℕ)
-      → PutsText held middle at next (eachBelow core text) → PutsText middle bytes next last (text core)
-      → PutsText held bytes at last (eachBelow (core + 1) text)
+  pub one-more-put : {held middle bytes : List ℕ} {at next last : ℕ} (k : ℕ)
+      → PutsText held middle at next (eachBelow k text) → PutsText middle bytes next last (text k)
+      → PutsText held bytes at last (eachBelow (k + 1) text)
   unfolding eachBelow
-  more-cores core first then = rw add-one (puts-then first then)
+  one-more-put k first then = rw add-one (puts-then first then)
 
 module _ (test : ℕ → Bool) where
-  -- no core was tested yet, and one more that fails
+  -- none was tested yet, and one more that fails
   pub none-tested : someBelow 0 test ≡ false
   unfolding someBelow
   none-tested = refl
