@@ -2,7 +2,9 @@
 -- place of document 01, Numbers that say no, and 0 for each value, since a refusal "carries no other value". Assumes
 -- nothing.
 use Rattle.outcomes.specs.Outcome.{Outcome, gives, refuses}
+use Rattle.ages.specs.Ages.{Ages}
 use Rattle.questions.specs.Questions.{Points}
+use Rattle.capi.specs.declared.LiskobranAges.{LiskobranAges}
 use Rattle.capi.specs.declared.LiskobranAnswer.{LiskobranAnswer}
 use Rattle.capi.specs.declared.LiskobranPoints.{LiskobranPoints}
 
@@ -16,3 +18,17 @@ unfoldable pub pointsSaid : Outcome Points → LiskobranPoints
 pointsSaid (gives points) =
     record { number = 0; place = 0; publishing = points .publishing; reading = points .reading }
 pointsSaid (refuses number place) = record { number = number; place = place; publishing = 0; reading = 0 }
+
+-- the ages of a chain
+unfoldable pub agesSaid : Outcome Ages → LiskobranAges
+agesSaid (gives ages) = record {
+  number = 0;
+  place = 0;
+  paths = ages .paths;
+  longest = ages .longest;
+  worst = ages .worst;
+  best = ages .best;
+  jitter = ages .jitter;
+}
+agesSaid (refuses number place) =
+    record { number = number; place = place; paths = 0; longest = 0; worst = 0; best = 0; jitter = 0 }

@@ -2,6 +2,7 @@
 // where the question is answered, and else that of document 01, Numbers that say no. What each answer says:
 // specs/Said.antt. No function requires anything. A slice has an address that is not null; include/liskobran.h declares
 // the functions for C, and others over them that take an empty image by any address.
+pub mod chain_ages;
 pub mod pairs;
 pub mod reading;
 
@@ -19,4 +20,16 @@ pub struct LiskobranPoints {
     pub place: u64,
     pub publishing: u64,
     pub reading: u64,
+}
+
+// The ages of a chain: number of paths, longest length, worst age, best age, jitter.
+#[repr(C)]
+pub struct LiskobranAges {
+    pub number: u32,
+    pub place: u64,
+    pub paths: u32,
+    pub longest: u32,
+    pub worst: u32,
+    pub best: u32,
+    pub jitter: u32,
 }

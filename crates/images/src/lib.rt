@@ -1,8 +1,9 @@
 // The reader of an image: any string of bytes in, a table or one numbered refusal out (document 01: Table image, Numbers
 // that say no).
 ghost use mathlib.Core.Path.{_≡_};
+ghost use Rattle.table.specs.Image.{readImage};
 ghost use Rattle.table.specs.Shown.{shownOf};
-ghost use Rattle.images.specs.TableShown.{TableShown};
+ghost use Rattle.images.specs.TableShown.{TableShown, rowsAfter};
 use table::Answer;
 use table::Table;
 
@@ -23,6 +24,22 @@ pub fn read_table(image: &[u8]) -> TableRead
 {
     let mut rows = [[0u32; 8]; 16];
     read_all(image, &mut rows)
+}
+
+// The table with the answer beside it, and the rows of its chains into rows that are lent; those of a refused image hold
+// what they held.
+pub fn read_whole(image: &[u8], rows: &mut [[u32; 8]; 16]) -> TableRead
+    ensures { λ r. ⌜ TableShown (now (image .entry)) r
+        × (now (rows .exit) ≡ rowsAfter (readImage (now (image .entry))) (now (rows .entry))) ⌝ }
+{
+    let mut taken = [[0u32; 8]; 16];
+    let read = read_all(image, &mut taken);
+    let answer = read.answer;
+    let Answer::Accepted = answer else {
+        return read;
+    };
+    *rows = taken;
+    read
 }
 
 // The task numbers of an image's chains: sixteen rows of eight, by value. Of a refused image they are all 0.

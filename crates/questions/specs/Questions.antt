@@ -8,7 +8,7 @@ use lib.Dec.{leb, ltb}
 use lib.ListN.{length, drop}
 use Rattle.times.specs.Points.{publishing, reading}
 use Rattle.outcomes.specs.Outcome.{Outcome, gives, refuses, askedOf}
-use Rattle.table.specs.Table.{timingOf, joins}
+use Rattle.table.specs.Table.{Rows, timingOf, joins}
 use Rattle.table.specs.Image.{readImage}
 use Rattle.table.specs.declared.Table.{Table}
 use Rattle.copies.specs.Listing.{listingOf}
@@ -60,9 +60,11 @@ unfoldable pub bytesListed : Outcome (List ℕ) → Outcome ℕ
 bytesListed outcome = askedOf outcome (λ bytes. gives (length bytes))
 
 -- 12: "asked .. chain .. not in the table"; else the answer for the chain
+abbrev pub chainAged : (table : Table) (rows : Rows) (chain : ℕ) → Outcome Ages
+chainAged table rows chain =
+    refusedUnless 12 (ltb chain (table .chains))
+    (gives (agesOfChain table rows chain))
+
+-- the ages of a chain, asked of the image: its own refusal first
 unfoldable pub ages : (image : List ℕ) (chain : ℕ) → Outcome Ages
-ages image chain =
-    askedOf (readImage image)
-    (λ whole.
-    refusedUnless 12 (ltb chain (whole .table .chains))
-    (gives (agesOfChain (whole .table) (whole .rows) chain)))
+ages image chain = askedOf (readImage image) (λ whole. chainAged (whole .table) (whole .rows) chain)

@@ -16,7 +16,7 @@ use times::rounds::Round;
 use times::rounds::hyperperiod;
 
 // The hyperperiod, where it is within its limit.
-fn round_of(period: [u32; 32], tasks: usize) -> u32
+pub(crate) fn round_of(period: [u32; 32], tasks: usize) -> u32
     ensures { λ r. ⌜ (lcmOf (take tasks period) ≤ 1000000 → r ≡ lcmOf (take tasks period)) ⌝ }
 {
     let round = hyperperiod(period, tasks);

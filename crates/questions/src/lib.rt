@@ -2,12 +2,14 @@
 // question is asked of the table image itself"). What each answer says: specs/.
 ghost use mathlib.Core.Path.{_≡_};
 ghost use lib.ListN.{length};
-ghost use Rattle.questions.specs.Answers.{saidOfListing, saidOfPoints};
-ghost use Rattle.questions.specs.Questions.{bytesListed, lentAfter, listing, points};
+ghost use Rattle.questions.specs.Answers.{saidOfAges, saidOfListing, saidOfPoints};
+ghost use Rattle.questions.specs.Questions.{ages, bytesListed, lentAfter, listing, points};
 
+mod chain_ages;
 mod cores;
 mod pairs;
 
+use chain_ages::ages_of;
 use cores::core_listed;
 use pairs::points_of;
 use table::Answer;
@@ -69,4 +71,18 @@ pub fn listing(image: &[u8], core: u64, buffer: &mut [u8]) -> ListingAnswer
         return core_listed(table, core, buffer);
     };
     ListingAnswer::Refused { refusal, place }
+}
+
+// The ages of a chain, asked of any bytes and any number. The image's own refusal is handed on.
+pub fn ages(image: &[u8], chain: u64) -> AgesAnswer
+    ensures { λ r. ⌜ saidOfAges r ≡ ages (now (image .entry)) chain ⌝ }
+{
+    let mut rows = [[0u32; 8]; 16];
+    let read = images::read_whole(image, &mut rows);
+    let answer = read.answer;
+    let Answer::Refused { refusal, place } = answer else {
+        let table = read.table;
+        return ages_of(table, rows, chain);
+    };
+    AgesAnswer::Refused { refusal, place }
 }

@@ -1,0 +1,69 @@
+-- The chain of a table's tasks, by their periods; and its round. Assumes nothing.
+use Prim.Native.Nat.{ℕ, zero, suc, _+_, _-_, _<_, _≤_}
+use mathlib.Core.Path.{_≡_, refl, sym, ap, ap₂, _∙_}
+use mathlib.Core.Logic.{by-cases}
+use mathlib.Core.List.{List, [], _∷_, map}
+use native.Mathlib.Nat.{add-zero}
+use native.Mathlib.Decide.{decLt}
+use native.Mathlib.Omega.{arith}
+use lib.ListN.{length, getD, set, take, drop}
+use lib.Seq.{getD-set-same, getD-set-other, drop-cons}
+use Rattle.times.specs.Releases.{Timing, every}
+use Rattle.times.specs.Hyperperiod.{lcmOf}
+use Rattle.table.specs.Table.{periodOf, timingOf}
+use Rattle.table.specs.declared.Table.{Table}
+use Rattle.ages.specs.Ages.{Chain, roundOf, chainTimings}
+use Rattle.following.specs.Following.{tasksFrom, chainBy, PeriodsOf}
+
+-- one period more
+pub periods-more : (period row periods : List ℕ) (i : ℕ) → i < length periods → PeriodsOf period row i periods
+    → PeriodsOf period row (i + 1) (set periods i (getD period (getD row i 0) 0))
+periods-more period row periods i inside before j below =
+    by-cases (decLt j i)
+    (λ earlier. getD-set-other periods i j _ 0 (λ same. omega arith) ∙ before j earlier)
+    (λ last.
+    let own : j ≡ i = omega arith in
+    rw own (getD-set-same periods i _ 0 inside))
+
+-- the tasks of these numbers, in their order
+tasks-of : (table : Table) (periods tasks : List ℕ) (i : ℕ)
+    → ((j : ℕ) → j < length tasks → getD periods (i + j) 0 ≡ periodOf table (getD tasks j 0))
+    → tasksFrom periods i (length tasks) ≡ map (timingOf table) tasks
+unfolding tasksFrom timingOf
+tasks-of table periods [] i same = refl
+tasks-of table periods (task ∷ tasks) i same =
+    let own : getD periods i 0 ≡ periodOf table task = rw (add-zero i) at (same 0 (omega arith)) in
+    ap₂ _∷_ (ap every own) (tasks-of table periods tasks (suc i) (λ j below.
+    let moved : suc i + j ≡ i + suc j = omega arith in
+    rw moved (same (suc j) (omega arith))))
+
+-- the chain of these tasks of a table
+pub chain-of : (table : Table) (periods tasks : List ℕ) → 0 < length tasks
+    → ((j : ℕ) → j < length tasks → getD periods j 0 ≡ periodOf table (getD tasks j 0))
+    → chainBy periods (length tasks) ≡ chainTimings table tasks
+unfolding chainTimings timingOf
+chain-of table periods [] some same = absurd (omega arith)
+chain-of table periods (task ∷ tasks) some same =
+    let left : suc (length tasks) - 1 ≡ length tasks = omega arith in
+    let others : tasksFrom periods 1 (suc (length tasks) - 1) ≡ map (timingOf table) tasks =
+    ap (tasksFrom periods 1) left
+    ∙ tasks-of table periods tasks 1 (λ j below.
+    let next : 1 + j ≡ suc j = omega arith in
+    rw next (same (suc j) (omega arith))) in
+    rw (same 0 (omega arith), others)
+
+-- its round
+periods-of : (periods : List ℕ) (i n : ℕ) → i + n ≤ length periods
+    → map (λ (task : Timing). task .period) (tasksFrom periods i n) ≡ take n (drop i periods)
+unfolding tasksFrom
+periods-of periods i zero within = refl
+periods-of periods i (suc n) within =
+    rw (drop-cons periods i 0 (omega arith)) (ap (λ l. getD periods i 0 ∷ l) (periods-of periods (suc i) n (omega arith)))
+
+pub chain-round : (periods : List ℕ) (count : ℕ) → 0 < count → count ≤ length periods
+    → roundOf (chainBy periods count) ≡ lcmOf (take count periods)
+unfolding roundOf tasksFrom
+chain-round periods zero some within = absurd (omega arith)
+chain-round periods (suc n) some within =
+    let left : suc n - 1 ≡ n = omega arith in
+    rw left (ap lcmOf (periods-of periods 0 (suc n) (omega arith)))

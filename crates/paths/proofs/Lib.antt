@@ -1,0 +1,7 @@
+-- Laws of the crate, for the functions here and for the crates above.
+mod Begins
+mod Inside
+mod PathTurns
+mod Stretches
+mod SumsMore
+mod Turns
