@@ -1,14 +1,13 @@
 -- How long the text of a core is: where its listing needs no more than 65,536 bytes, no more than 305,816. So a program
 -- can have room for it. No contract cites this file. Assumes nothing.
-use Prim.Native.Nat.{ℕ, suc, _+_, _*_, _/_, _^_, _<_, _≤_}
+use Prim.Native.Nat.{ℕ, _+_, _*_, _/_, _<_, _≤_}
 use mathlib.Core.Path.{_≡_, ap, _∙_}
 use mathlib.Core.List.{List, [], _∷_, _++_}
-use native.Mathlib.Nat.{le-trans}
 use native.Mathlib.Omega.{arith}
 use lib.ListN.{length, length-append}
 use Rattle.lists.specs.Lists.{eachOf}
 use Rattle.lists.proofs.All.{All, all-also}
-use Rattle.bits.specs.Packing.{Field, bytesFor}
+use Rattle.bits.specs.Packing.{bytesFor}
 use Rattle.bits.proofs.Held.{length-packed}
 use Rattle.table.specs.Image.{Whole}
 use Rattle.table.specs.Rules.{MeetsRules}
