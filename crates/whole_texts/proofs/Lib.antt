@@ -1,2 +1,4 @@
 -- Laws of this crate.
+pub mod AgesSmall
+pub mod Lengths
 mod Outcomes

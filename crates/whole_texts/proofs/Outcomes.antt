@@ -1,4 +1,5 @@
--- What is printed of an accepted image and of a refused one, by what its reader and the questions answer. No contract cites this file. Assumes nothing.
+-- What is printed of an accepted image and of a refused one, by what its reader and the questions answer. No contract
+-- cites this file. Assumes nothing.
 use Prim.Native.Nat.{ℕ, _<_}
 use mathlib.Core.Bool.{Bool, true, false}
 use mathlib.Core.Path.{_≡_, sym, ap, _∙_}

@@ -1,6 +1,7 @@
 // The whole text that is printed of an image, made in lent bytes (document 01, The printing program): of any bytes,
 // accepted or refused.
 ghost use mathlib.Core.Path.{_≡_};
+ghost use lib.ListN.{length};
 ghost use Rattle.outcomes.specs.Outcome.{gives};
 ghost use Rattle.table.specs.Image.{Whole, readImage};
 ghost use Rattle.printing.specs.Printed.{printable, printed, textOf};
@@ -16,6 +17,13 @@ use table_texts::lengths::some_too_long;
 use table_texts::put_first_part;
 use texts::lines::put_refusal;
 use times::rounds::Round;
+
+// Room for every text: what is printed of an accepted image is no longer than 2,447,876 bytes (proofs/Lengths.antt).
+pub fn room() -> [u8; 2621440]
+    ensures { λ r. ⌜ 2621440 ≡ length r ⌝ }
+{
+    [0; 2621440]
+}
 
 // What is printed of an accepted image with this table: hyperperiod, cores and chains, or the line of refusal 11.
 fn put_accepted(bytes: &mut [u8], image: &[u8], table: Table) -> usize
