@@ -26,7 +26,8 @@ use Rattle.printing.specs.Words.{hyperperiodWord, refusedWord, chainWord, paths
 use Rattle.printing.specs.Words.{jitterWord, space, newline, decimal, named}
 use Rattle.texts.proofs.DecimalsShort.{decimal-short}
 use Rattle.table_texts.proofs.Room.{core-short}
-use Rattle.whole_texts.proofs.AgesSmall.{NumbersSmall, chain-numbers-small}
+use Rattle.whole_texts.proofs.AgesSmall.{NumbersSmall}
+use Rattle.whole_texts.proofs.ChainsSmall.{chain-numbers-small}
 
 -- a word of a few letters and a number of a few digits
 named-short : (word : List ℕ) (k n : ℕ) → n < 10 ^ suc k → length (named word n) ≤ length word + 1 + suc k

@@ -1,4 +1,5 @@
 -- Laws of this crate.
-pub mod AgesSmall
+mod AgesSmall
+mod ChainsSmall
 pub mod Lengths
 mod Outcomes
