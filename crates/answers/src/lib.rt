@@ -2,6 +2,7 @@
 use lines::numbers::Numbers;
 use lines::words::Question;
 use printing::HyperperiodAnswer;
+use questions::AgesAnswer;
 use questions::ListingAnswer;
 use questions::PointsAnswer;
 use telling::complain;
@@ -56,6 +57,26 @@ fn ask_listing(image: &[u8], core: u32, room: u32) {
     complain();
 }
 
+// The ages of a chain of an image: paths, longest, worst, best, jitter.
+fn ask_ages(image: &[u8], chain: u32) {
+    match questions::ages(image, chain as u64) {
+        AgesAnswer::Ages {
+            paths,
+            longest,
+            worst,
+            best,
+            jitter,
+        } => {
+            tell(paths as u64);
+            tell(longest as u64);
+            tell(worst as u64);
+            tell(best as u64);
+            tell(jitter as u64);
+        }
+        AgesAnswer::Refused { refusal, place } => tell_refusal(refusal, place),
+    }
+}
+
 // The points of two periods, without an image.
 fn ask_directly(writer_period: u32, reader_period: u32, n: u32) {
     let writer = Timing {
@@ -74,6 +95,7 @@ pub fn answer(question: Question, numbers: Numbers, image: &[u8]) {
         Question::Image => ask_image(image),
         Question::Points => ask_points(image, numbers.first, numbers.second, numbers.third),
         Question::Listing => ask_listing(image, numbers.first, numbers.second),
+        Question::Ages => ask_ages(image, numbers.first),
         Question::Directly => ask_directly(numbers.first, numbers.second, numbers.third),
         Question::Unknown => complain(),
     }

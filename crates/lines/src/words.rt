@@ -2,11 +2,13 @@
 ghost use Rattle.lines.specs.Words.{Goes, askedBy};
 ghost use mathlib.Core.Path.{_≡_};
 
-// What a case asks: of an image its hyperperiod or refusal, points or a listing; or directly the points of two periods.
+// What a case asks: of an image its hyperperiod or refusal, points, a listing or ages; or directly the points of two
+// periods.
 pub enum Question {
     Image,
     Points,
     Listing,
+    Ages,
     Directly,
     Unknown,
 }
@@ -24,6 +26,9 @@ pub fn question_of(part: &[u8]) -> Question
     if check::same(part, b" listing") {
         return Question::Listing;
     }
+    if check::same(part, b" ages") {
+        return Question::Ages;
+    }
     if check::same(part, b" directly") {
         return Question::Directly;
     }
@@ -38,6 +43,7 @@ pub fn asked_by(question: Question) -> u32
         Question::Image => 0,
         Question::Points => 3,
         Question::Listing => 2,
+        Question::Ages => 1,
         Question::Directly => 3,
         Question::Unknown => 0,
     }

@@ -3,9 +3,9 @@
 //
 //     NAME: QUESTION NUMBERS IMAGE
 //
-// where the question is `image` (no number), `points` (writer, reader, n), `listing` (core, how many bytes are lent) or
-// `directly` (two periods and n, and no image), and the image stands in hexadecimal. A line that begins with # is a
-// remark. Of each case the name is printed, a colon, and what the proved libraries answer. The file `stdout` has what
+// where the question is `image` (no number), `points` (writer, reader, n), `listing` (core, how many bytes are lent),
+// `ages` (chain) or `directly` (two periods and n, and no image), and the image stands in hexadecimal. A line that begins
+// with # is a remark. Of each case the name is printed, a colon, and what the proved libraries answer. The file `stdout` has what
 // document 01 says.
 use answers::answer;
 use libc::STDIN_FILENO;

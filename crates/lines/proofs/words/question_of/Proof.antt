@@ -18,14 +18,19 @@ returns-4 : tie.Need-returns-4
 returns-4 c = c .before .same4 .ensures .0 (c .if4 .taken)
 
 returns-5 : tie.Need-returns-5
-returns-5 c =
-    let image = c .before .before .before .before .before .before .before .before .before in
-    let points = c .before .before .before .before .before .before in
-    let listing = c .before .before .before in (
+returns-5 c = c .before .same5 .ensures .0 (c .if5 .taken)
+
+returns-6 : tie.Need-returns-6
+returns-6 c =
+    let ages = c .before .before .before in
+    let listing = ages .before .before .before in
+    let points = listing .before .before .before in
+    let image = points .before .before .before in (
       (λ is. false≢true (sym (image .if1 .left) ∙ image .before .same .ensures .1 is)),
       (λ is. false≢true (sym (points .if2 .left) ∙ points .before .same2 .ensures .1 is)),
       (λ is. false≢true (sym (listing .if3 .left) ∙ listing .before .same3 .ensures .1 is)),
-      (λ is. false≢true (sym (c .if4 .left) ∙ c .before .same4 .ensures .1 is)),
+      (λ is. false≢true (sym (ages .if4 .left) ∙ ages .before .same4 .ensures .1 is)),
+      (λ is. false≢true (sym (c .if5 .left) ∙ c .before .same5 .ensures .1 is)),
     )
 
 pub question-of-spec : {M : Type 1} → statement M
@@ -44,4 +49,7 @@ question-of-spec =
     (λ c. search needs)  -- slice-aggregate-same-4
     (λ c κs. search needs)  -- same-requires-4
     returns-4
-    returns-5)
+    (λ c. search needs)  -- slice-aggregate-same-5
+    (λ c κs. search needs)  -- same-requires-5
+    returns-5
+    returns-6)
