@@ -8,6 +8,8 @@ ghost use Rattle.texts.specs.Puts.{PutsText};
 mod walked;
 
 use frames::instant::gather_both;
+use label_masks::read_labels;
+use label_masks::written_labels;
 use table::Table;
 use texts::lines::put_core;
 use walked::put_frames;
@@ -18,6 +20,11 @@ pub fn put_core_text(bytes: &mut [u8], at: usize, table: Table, core: u32, round
     ensures { λ r. ⌜ (RightRound table round
         → PutsText (now (bytes .entry)) (now (bytes .exit)) at r (coreText (coreListing table core))) ⌝ }
 {
+    let writer = table.writer;
+    let readers = table.readers;
+    let periods = table.period;
+    let written = written_labels(table.labels, &writer);
+    let read = read_labels(table.labels, table.tasks, &readers);
     let mut publishing = [0u32; 1024];
     let mut reading = [0u32; 1024];
     let both = gather_both(table, core, &mut publishing, &mut reading);
@@ -27,8 +34,12 @@ pub fn put_core_text(bytes: &mut [u8], at: usize, table: Table, core: u32, round
     put_frames(
         bytes,
         next,
-        table,
         round,
+        &writer,
+        &readers,
+        &periods,
+        &written,
+        &read,
         &mut publishing[0..first],
         &mut reading[0..second],
     )

@@ -1,50 +1,53 @@
 // The lines of the frames of a round, one after the other.
-ghost use Prim.Native.Nat.{ℕ};
+ghost use Prim.Native.Nat.{ℕ, _≤_};
+ghost use mathlib.Core.Path.{_≡_};
+ghost use lib.ListN.{length};
 ghost use Rattle.lists.specs.Lists.{eachOf};
+ghost use Rattle.table.specs.declared.Table.{Table};
 ghost use Rattle.copies.specs.Copies.{framesOf};
 ghost use Rattle.frames.specs.Counts.{RightRound};
-ghost use Rattle.frames.specs.Ready.{Ready};
+ghost use Rattle.frames.specs.Ready.{GoesOver, Ready};
 ghost use Rattle.printing.specs.Printed.{frameText};
 ghost use Rattle.texts.specs.Puts.{PutsText};
 use frame_texts::put_frame;
 use frames::instant::instant_at;
-use instants::count_copies;
-use table::Table;
 
 // Instant after instant: the line of each that has a copy. Of a table that is not right an instant may not move on.
 pub(crate) fn put_frames(
     bytes: &mut [u8],
     at: usize,
-    table: Table,
     round: u32,
+    writer: &[u32; 64],
+    readers: &[u32; 64],
+    periods: &[u32; 32],
+    written: &[u64; 32],
+    read: &[u64; 32],
     publishing: &mut [u32],
     reading: &mut [u32],
 ) -> usize
-    ensures { λ r. ⌜ ((core : ℕ) → RightRound table round
+    requires { ⌜ length (now reading) ≤ 1024 ⌝ }
+    ensures { λ r. ⌜ ((table : Table) (core : ℕ) → RightRound table round
+        → (now (writer .entry) ≡ table .writer) × (now (readers .entry) ≡ table .readers)
+        → GoesOver table (now (periods .entry)) (now (written .entry)) (now (read .entry))
         → Ready table core 0 (now (publishing .entry)) (now (reading .entry))
         → PutsText (now (bytes .entry)) (now (bytes .exit)) at r (eachOf (framesOf table core) frameText)) ⌝ }
 {
-    let writer = table.writer;
-    let readers = table.readers;
-    let periods = table.period;
-    let labels = table.labels;
     let mut place = at;
     let mut t: u32 = 0;
     while t < round {
-        let due = instant_at(t, &periods, publishing, reading);
-        let publishes = due.publishes;
-        let serves = due.serves;
-        let count = count_copies(labels, &writer, &readers, &publishes, &serves);
+        let due = instant_at(t, periods, written, read, publishing, reading);
+        let count = due.copies;
         if count > 0 {
+            let serves = due.serves;
             place = put_frame(
                 bytes,
                 place,
                 t,
-                labels,
-                &writer,
-                &readers,
-                &publishes,
+                writer,
+                readers,
                 &serves,
+                due.written,
+                due.read,
             );
         }
         let next = due.next;

@@ -1,10 +1,13 @@
 // The copies of a frame's line: "each copy after one space: W and the label, or R, the label, a colon and the reader".
-ghost use Prim.Native.Nat.{ℕ, _≤_};
+ghost use Prim.Native.Nat.{ℕ};
+ghost use mathlib.Core.List.{List};
 ghost use Rattle.lists.specs.Lists.{eachOf};
 ghost use Rattle.copies.specs.Copies.{write, read};
-ghost use Rattle.instants.specs.Due.{writeDue, readsDue, writesDue, allReadsDue};
+ghost use Rattle.instants.specs.Due.{readsDue, writesIn, readsIn};
 ghost use Rattle.printing.specs.Printed.{copyText};
 ghost use Rattle.texts.specs.Puts.{PutsText};
+use instants::labels::first_label;
+use instants::labels::without;
 use readers::next_reader;
 use texts::puts::put_byte;
 use texts::puts::put_number;
@@ -29,37 +32,17 @@ fn put_read(bytes: &mut [u8], at: usize, label: u32, reader: u32) -> usize
     put_number(bytes, third, reader as u64)
 }
 
-// The write of one label, where it is due.
-fn write_of(bytes: &mut [u8], at: usize, label: u32, readers: u32, publishes: u32) -> usize
-    ensures { λ r. ⌜ ((writer : ℕ) → PutsText (now (bytes .entry)) (now (bytes .exit)) at r
-        (eachOf (writeDue readers publishes label writer) copyText)) ⌝ }
-{
-    let wanted = readers & publishes;
-    if wanted == 0 {
-        return at;
-    }
-    put_write(bytes, at, label)
-}
-
-// The writes of the first labels.
-pub(crate) fn put_writes(
-    bytes: &mut [u8],
-    at: usize,
-    labels: usize,
-    writer: &[u32; 64],
-    readers: &[u32; 64],
-    publishes: &[u32; 32],
-) -> usize
-    requires { ⌜ labels ≤ 64 ⌝ }
-    ensures { λ r. ⌜ PutsText (now (bytes .entry)) (now (bytes .exit)) at r
-        (eachOf (writesDue (now (writer .entry)) (now (readers .entry)) (now (publishes .entry)) labels) copyText) ⌝ }
+// The writes of the labels of a mask, by rising label, whoever the writers are.
+pub(crate) fn put_writes(bytes: &mut [u8], at: usize, written: u64) -> usize
+    ensures { λ r. ⌜ ((writer : List ℕ) → PutsText (now (bytes .entry)) (now (bytes .exit)) at r
+        (eachOf (writesIn writer written) copyText)) ⌝ }
 {
     let mut next = at;
-    let mut l: usize = 0;
-    while l < labels {
-        let w = (writer[l] % 32) as usize;
-        next = write_of(bytes, next, l as u32, readers[l], publishes[w]);
-        l += 1;
+    let mut rest = written;
+    while rest > 0 {
+        let l = first_label(rest);
+        next = put_write(bytes, next, l);
+        rest = without(rest, l);
     }
     next
 }
@@ -82,25 +65,25 @@ fn reads_of(bytes: &mut [u8], at: usize, label: u32, readers: u32, serves: u32) 
     next
 }
 
-// The reads of the first labels.
+// The reads of the labels of a mask, by rising label.
 pub(crate) fn put_reads(
     bytes: &mut [u8],
     at: usize,
-    labels: usize,
     writer: &[u32; 64],
     readers: &[u32; 64],
     serves: &[u32; 32],
+    read: u64,
 ) -> usize
-    requires { ⌜ labels ≤ 64 ⌝ }
     ensures { λ r. ⌜ PutsText (now (bytes .entry)) (now (bytes .exit)) at r
-        (eachOf (allReadsDue (now (writer .entry)) (now (readers .entry)) (now (serves .entry)) labels) copyText) ⌝ }
+        (eachOf (readsIn (now (writer .entry)) (now (readers .entry)) (now (serves .entry)) read) copyText) ⌝ }
 {
     let mut next = at;
-    let mut l: usize = 0;
-    while l < labels {
-        let w = (writer[l] % 32) as usize;
-        next = reads_of(bytes, next, l as u32, readers[l], serves[w]);
-        l += 1;
+    let mut rest = read;
+    while rest > 0 {
+        let l = first_label(rest);
+        let w = (writer[l as usize] % 32) as usize;
+        next = reads_of(bytes, next, l, readers[l as usize], serves[w]);
+        rest = without(rest, l);
     }
     next
 }

@@ -5,7 +5,7 @@ ghost use lib.Count.{leadingZeros};
 ghost use Rattle.masks.specs.Masks.{alone};
 
 // The first label of a mask.
-pub(crate) fn first_label(labels: u64) -> u32
+pub fn first_label(labels: u64) -> u32
     requires { ⌜ 0 < labels ⌝ }
     ensures { λ r. ⌜ (r ≡ leadingZeros 64 labels) × (r < 64) ⌝ }
 {
@@ -13,7 +13,7 @@ pub(crate) fn first_label(labels: u64) -> u32
 }
 
 // The mask without its first label.
-pub(crate) fn without(labels: u64, first: u32) -> u64
+pub fn without(labels: u64, first: u32) -> u64
     requires { ⌜ (0 < labels) × (first ≡ leadingZeros 64 labels) ⌝ }
     ensures { λ r. ⌜ (r ≡ labels - alone 64 first) × (r < labels) ⌝ }
 {

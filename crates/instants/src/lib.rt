@@ -6,7 +6,7 @@ ghost use Prim.Native.Nat.{min};
 ghost use Rattle.instants.specs.Due.{writesIn, readsIn};
 ghost use Rattle.instants.specs.Puts.{PutsCopies};
 
-mod labels;
+pub mod labels;
 mod puts;
 
 use packing::Pen;

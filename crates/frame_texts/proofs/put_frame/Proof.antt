@@ -3,7 +3,7 @@
 use borrow.Author.Needs.{needs}
 use Rattle.printing.specs.Printed.{frameText}
 use Rattle.texts.proofs.Putting.{puts-then, puts-length}
-use Rattle.frame_texts.proofs.CopiesPut.{copies-put}
+use Rattle.frame_texts.proofs.CopiesPut.{copies-then}
 use Rattle.frame_texts.proofs.put_frame.Statement.{statement}
 use Rattle.frame_texts.proofs.put_frame.Tie as tie
 
@@ -15,14 +15,12 @@ returns c =
     let writes = reads .before .before .before .before in
     let start = writes .before .before .before .before in
     puts-then (puts-then (start .put-number .ensures)
-    (copies-put _ _ _ _ _ (start .before .before .held .ensures) (writes .put-writes .ensures)
-    (reads .put-reads .ensures))) (end .put-byte .ensures)
+    (copies-then _ _ (writes .put-writes .ensures _) (reads .put-reads .ensures))) (end .put-byte .ensures)
 
 pub put-frame-spec : {M : Type 1} → statement M
 put-frame-spec =
     tie.close
     (tie.spec
-    (λ c κs. search needs)  -- held-requires
     (λ c κs. search needs)  -- put-number-requires
     (λ c κs. search needs)  -- put-writes-requires
     (λ c κs. search needs)  -- put-reads-requires

@@ -7,7 +7,9 @@ use native.Mathlib.Omega.{arith}
 use lib.ListN.{length, getD}
 use Rattle.copies.specs.Copies.{Copy}
 use Rattle.instants.specs.Due.{writerDue, readsDue, readsIn}
+use Rattle.instants.specs.Puts.{PutsCopies}
 use Rattle.instants.proofs.LabelsPut.{PutBefore, put-nothing, put-label, put-all}
+use Rattle.instants.proofs.Putting.{no-copy, copies-then}
 use Rattle.instants.proofs.puts.write_reads.Statement.{statement}
 use Rattle.instants.proofs.puts.write_reads.Tie as tie
 
@@ -19,13 +21,13 @@ abbrev Inv-loop : tie.InvT-loop
 Inv-loop bytes₀ writer readers serves read last₀ rest₀ bytes last rest =
     (length bytes ≡ length bytes₀)
     × (rest < 2 ^ 64)
-    × PutBefore (of-one writer readers serves) read rest bytes₀ bytes last₀ last
+    × PutBefore (of-one writer readers serves) (PutsCopies bytes₀ bytes last₀ last) read rest
 
 abbrev μ-loop : tie.MeasureT-loop
 μ-loop bytes₀ writer readers serves read last₀ rest₀ bytes last rest = rest
 
 loop-holds : tie.Need-loop-holds Inv-loop μ-loop
-loop-holds c = (refl, c .before .fits .read .fits, put-nothing _ _ _ _)
+loop-holds c = (refl, c .before .fits .read .fits, put-nothing _ _ (no-copy _ _ refl))
 
 loop-again : tie.Need-loop-again Inv-loop μ-loop
 unfolding writerDue
@@ -36,7 +38,7 @@ loop-again c =
       c .before .before .bytes .given ∙ turn .inv .0,
       omega (arith, c .without .ensures .1, turn .inv .1),
       put-label _ (omega arith) (turn .inv .1) (turn .inv .2) (label .first-label .ensures .0)
-          (c .without .ensures .0) (put .reads-of .ensures),
+          (c .without .ensures .0) (λ done before. copies-then done _ before (put .reads-of .ensures)),
     )
 
 returns : tie.Need-returns Inv-loop μ-loop

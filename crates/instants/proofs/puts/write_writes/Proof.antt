@@ -8,8 +8,9 @@ use lib.ListN.{length}
 use Rattle.masks.specs.Masks.{eachHeld}
 use Rattle.copies.specs.Copies.{Copy, write}
 use Rattle.instants.specs.Due.{writerDue, writesIn}
+use Rattle.instants.specs.Puts.{PutsCopies}
 use Rattle.instants.proofs.LabelsPut.{PutBefore, put-nothing, put-label, put-all}
-use Rattle.instants.proofs.Putting.{one-write}
+use Rattle.instants.proofs.Putting.{no-copy, one-write, copies-then}
 use Rattle.instants.proofs.puts.write_writes.Statement.{statement}
 use Rattle.instants.proofs.puts.write_writes.Tie as tie
 
@@ -21,13 +22,13 @@ abbrev Inv-loop : tie.InvT-loop
 Inv-loop bytes₀ writer written last₀ rest₀ bytes last rest =
     (length bytes ≡ length bytes₀)
     × (rest < 2 ^ 64)
-    × PutBefore (one writer) written rest bytes₀ bytes last₀ last
+    × PutBefore (one writer) (PutsCopies bytes₀ bytes last₀ last) written rest
 
 abbrev μ-loop : tie.MeasureT-loop
 μ-loop bytes₀ writer written last₀ rest₀ bytes last rest = rest
 
 loop-holds : tie.Need-loop-holds Inv-loop μ-loop
-loop-holds c = (refl, c .before .fits .written .fits, put-nothing _ _ _ _)
+loop-holds c = (refl, c .before .fits .written .fits, put-nothing _ _ (no-copy _ _ refl))
 
 loop-again : tie.Need-loop-again Inv-loop μ-loop
 unfolding writerDue
@@ -38,7 +39,7 @@ loop-again c =
       c .before .before .bytes .given ∙ turn .inv .0,
       omega (arith, c .without .ensures .1, turn .inv .1),
       put-label _ (omega arith) (turn .inv .1) (turn .inv .2) (label .0) (c .without .ensures .0)
-          (one-write _ _ refl (put .put-copy .ensures)),
+          (λ done before. copies-then done _ before (one-write _ _ refl (put .put-copy .ensures))),
     )
 
 returns : tie.Need-returns Inv-loop μ-loop
