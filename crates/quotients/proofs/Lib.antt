@@ -1,0 +1,2 @@
+-- Laws of the crate, for the crates above.
+pub mod Quotients
