@@ -97,11 +97,10 @@ module _ (periods : List ℕ) where
           length-tasks periods (at + 1) n,
         )
 
-    pub passed-at-soon : (t : ℕ) → passed (tasksFrom periods 1 at) t ≤ t + 16000000
+    pub passed-at-soon : (t : ℕ) → passed (tasksFrom periods 1 at) t ≤ t + 2000000 * at
     passed-at-soon t =
         omega (
           arith,
-          right .few,
           passed-soon (tasksFrom periods 1 at) (tasks-in-range periods right 1 at (omega arith)) t,
           length-tasks periods 1 at,
         )

@@ -19,7 +19,7 @@ use Rattle.following.proofs.Backwards.{passed-rises}
 use Rattle.following.proofs.Ends.{end-from, tasks-timed, passed-at-soon}
 use Rattle.following.proofs.Starts.{published-released, last-is-start, by-start}
 use Rattle.paths.specs.declared.Walk.{Walk}
-use Rattle.paths.specs.Walks.{Sums, pathsBelow, starts, RightChain, SumsOfRound, Walks}
+use Rattle.paths.specs.Walks.{Sums, pathsBelow, starts, RightChain, SumsOfRound, Walks, firstWalk}
 use Rattle.paths.proofs.Inside.{zero-released, release-of-round}
 use Rattle.paths.proofs.Stretches.{Alike, paths-alike, release-rises}
 use Rattle.paths.proofs.SumsMore.{sums-none}
@@ -49,8 +49,11 @@ module _ (periods : List ℕ) {count at round : ℕ} (right : RightChain periods
     some = right .some;
     inside = inside;
     since = le-refl firstInstant;
-    near = omega (arith, passed-at-soon periods (right .right) (right .some) inside 0);
+    near = omega (arith, passed-at-soon periods (right .right) (right .some) inside 0, right .right .few);
   }
+
+  pub first-near : firstInstant ≤ 32000000
+  first-near = omega (arith, passed-at-soon periods (right .right) (right .some) inside 0, right .right .few)
 
   -- and with it the starts up to the last one then
   first-alike : Alike (chainBy periods count) 0 (lastStart periods at firstInstant) (endFrom periods at count firstInstant)
@@ -67,15 +70,7 @@ module _ (periods : List ℕ) {count at round : ℕ} (right : RightChain periods
   first-timed : 0 < getD periods 0 0
   first-timed = omega (arith, right .right .each 0 (omega arith))
 
-  pub begun : Walks periods count at round (record {
-    instant = firstInstant;
-    start = lastStart periods at firstInstant;
-    end = endFrom periods at count firstInstant;
-    paths = 0;
-    longest = 0;
-    worst = 0;
-    best = 0;
-  })
+  pub begun : Walks periods count at round (firstWalk periods at count)
   unfolding pathsBelow eachBelow
   begun =
       let chain = chainBy periods count in
