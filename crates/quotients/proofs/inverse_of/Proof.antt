@@ -1,9 +1,19 @@
 -- `quotients::inverse_of` meets its contract: each factor is below 2^32. Assumes nothing.
+use mathlib.Core.Path.{refl}
 use native.Mathlib.Omega.{arith}
 use borrow.Author.Needs.{needs}
 use Rattle.quotients.proofs.Quotients.{few-times}
 use Rattle.quotients.proofs.inverse_of.Statement.{statement}
 use Rattle.quotients.proofs.inverse_of.Tie as tie
+
+returns : tie.Need-returns
+returns c = record { positive = omega arith; small = omega arith; is = refl; wide = omega arith }
+
+returns-2 : tie.Need-returns-2
+returns-2 c = record { positive = omega arith; small = omega arith; is = refl; wide = omega arith }
+
+returns-3 : tie.Need-returns-3
+returns-3 c = record { positive = omega arith; small = omega arith; is = refl; wide = omega arith }
 
 pub inverse-of-spec : {M : Type 1} → statement M
 inverse-of-spec =
@@ -12,12 +22,12 @@ inverse-of-spec =
     (λ c. search needs)  -- div-t4
     (λ c. omega (arith, few-times 2147483648 (c .before .args .divisor) (omega arith) (omega arith)))  -- add-t5
     (λ c. omega (arith, few-times 2147483648 (c .before .args .divisor) (omega arith) (omega arith)))  -- cast-t6
-    (λ c. search needs)  -- returns
+    returns
     (λ c. search needs)  -- div-t7
     (λ c. omega (arith, few-times 274877906944 (c .before .before .args .divisor) (omega arith) (omega arith)))  -- add-t8
     (λ c. omega (arith, few-times 274877906944 (c .before .before .args .divisor) (omega arith) (omega arith)))  -- cast-t9
-    (λ c. search needs)  -- returns-2
+    returns-2
     (λ c. search needs)  -- div-t10
     (λ c. omega (arith, few-times 35184372088832 (c .before .before .args .divisor) (omega arith) (omega arith)))  -- add-t11
     (λ c. omega (arith, few-times 35184372088832 (c .before .before .args .divisor) (omega arith) (omega arith)))  -- cast-t12
-    (λ c. search needs))
+    returns-3)
