@@ -1,7 +1,7 @@
--- A release by what stands for the task's period: the quotient of a number that is not large. No contract cites this file.
--- Assumes nothing.
+-- A release by what stands for the task's period: the quotient of a number that is not large. No contract cites this
+-- file. Assumes nothing.
 use Prim.Native.Nat.{ℕ, _*_, _/_, _^_, _<_, _≤_}
-use mathlib.Core.Path.{_≡_, ap, _∙_}
+use mathlib.Core.Path.{_≡_, _∙_}
 use native.Mathlib.Nat.{div-mul-le-self, div-le-self}
 use native.Mathlib.Omega.{arith}
 use Rattle.quotients.specs.Inverses.{InverseOf}

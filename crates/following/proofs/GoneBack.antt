@@ -10,7 +10,7 @@ use lib.ListN.{getD}
 use Rattle.times.specs.Releases.{every, isRelease, lastTo}
 use Rattle.times.proofs.Releases.{lastTo-is, lastTo-at-most}
 use Rattle.times.proofs.ReleasesRepeat.{release-repeats}
-use Rattle.following.specs.Following.{passed, lastFor, tasksFrom, lastStart, RightPeriods, PublishedAt}
+use Rattle.following.specs.Following.{passed, lastFor, tasksFrom, lastStart, PublishedAt}
 use Rattle.following.proofs.Backwards.{job-by, passed-append, lastFor-append}
 use Rattle.following.proofs.Tasks.{tasks-more}
 

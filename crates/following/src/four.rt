@@ -1,6 +1,6 @@
 // Four instants at once: nothing of one is needed for another.
 ghost use mathlib.Core.Path.{_≡_};
-ghost use Prim.Native.Nat.{_<_, _≤_, _-_, _+_};
+ghost use Prim.Native.Nat.{_≤_, _-_, _+_};
 ghost use Rattle.times.specs.Releases.{every, firstFrom, lastTo, jobEnd};
 ghost use Rattle.quotients.specs.Inverses.{InverseOf};
 ghost use Rattle.following.specs.Fours.{All, Each};

@@ -1,6 +1,6 @@
-// A chain followed forwards and backwards, by the periods of its tasks (document 01, Age of a chain), from four instants at
-// once. What is followed is the instant at which a task publishes; of the last task that is one period after the end of
-// the path. Beside each period stand a factor and a shift, by which it divides.
+// A chain followed forwards and backwards, by the periods of its tasks (document 01, Age of a chain), from four instants
+// at once. What is followed is the instant at which a task publishes; of the last task that is one period after the end
+// of the path. Beside each period stand a factor and a shift, which divide by it (crates/quotients).
 ghost use mathlib.Core.Path.{_≡_};
 ghost use Prim.Native.Nat.{_≤_, _+_, _*_, _-_};
 ghost use Rattle.quotients.specs.Inverses.{InversesOf};

@@ -1,6 +1,7 @@
-// One task of a chain: what it takes and when it publishes it. A factor and a shift stand for its period where it divides.
+// One task of a chain: what it takes and when it publishes it. Beside its period stand a factor and a shift, which divide
+// by it.
 ghost use mathlib.Core.Path.{_≡_};
-ghost use Prim.Native.Nat.{_<_, _≤_, _-_, _+_};
+ghost use Prim.Native.Nat.{_≤_, _-_, _+_};
 ghost use Rattle.times.specs.Releases.{every, firstFrom, lastTo, jobEnd};
 ghost use Rattle.quotients.specs.Inverses.{InverseOf};
 use quotients::quotient;

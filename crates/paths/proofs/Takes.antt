@@ -56,7 +56,8 @@ module _ (periods : List ℕ) {count at round : ℕ} {walk : Walk} {instant star
           }
 
       -- no start more
-      pub start-kept : start ≡ walk .start → Taken periods count at round walk instant (movedTo walk instant start (walk .end))
+      pub start-kept : start ≡ walk .start
+          → Taken periods count at round walk instant (movedTo walk instant start (walk .end))
       start-kept same =
           gone-on walk start (walk .end)
           (same-walk periods count at round walk _ _ _ _ _ _ is-next is-start refl

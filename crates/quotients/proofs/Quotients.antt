@@ -13,7 +13,8 @@ module _ (D P n : ℕ) (positive : 0 < D) (power : 0 < P) (wide : D * 33554432 �
     below : q * P ≤ n * suc m
     below =
         let past : P ≤ suc m * D = omega (arith, suc-mul m D) in
-        let moved : q * (suc m * D) ≡ q * D * suc m = ap (λ k. q * k) (mul-comm (suc m) D) ∙ sym (mul-assoc q D (suc m)) in
+        let moved : q * (suc m * D) ≡ q * D * suc m =
+        ap (λ k. q * k) (mul-comm (suc m) D) ∙ sym (mul-assoc q D (suc m)) in
         omega (arith, mul-le-mul-left q past, mul-le-mul-right (suc m) (of-n .0))
 
     above : n < m → n * suc m < suc q * P
@@ -43,8 +44,8 @@ module _ (D P n : ℕ) (positive : 0 < D) (power : 0 < P) (wide : D * 33554432 �
 pub quotient-is : (D factor shift n : ℕ) → InverseOf D factor shift → n < 33554432 → n * factor / 2 ^ shift ≡ n / D
 quotient-is D factor shift n inverse small =
     rw (inverse .is)
-    (product-quotient D (2 ^ shift) n (inverse .positive) (omega (arith, inverse .wide, inverse .positive)) (inverse .wide)
-    small)
+    (product-quotient D (2 ^ shift) n (inverse .positive) (omega (arith, inverse .wide, inverse .positive))
+    (inverse .wide) small)
 
 -- the factor of a divisor that is not small is below 2^32
 pub few-times : (P D : ℕ) → 0 < D → P < 4294967295 * D → P / D < 4294967295

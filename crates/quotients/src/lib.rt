@@ -16,7 +16,7 @@ pub struct Inverses {
     pub shifts: [u32; 32],
 }
 
-// The factor is 2^shift divided by the divisor, rounded up past it: at least 2^25, and below 2^32. Three shifts are enough.
+// The factor is 2^shift divided by the divisor, and one more: at least 2^25, and below 2^32. Three shifts are enough.
 pub fn inverse_of(divisor: u32) -> Inverse
     requires { ⌜ (0 < divisor) × (divisor ≤ 1000000) ⌝ }
     ensures { λ r. ⌜ InverseOf divisor (r .factor) (r .shift) ⌝ }
@@ -50,7 +50,8 @@ pub fn quotient(n: u32, factor: u32, shift: u32) -> u32
 
 // What stands for each of the first divisors: once, before there is much to divide.
 pub fn inverses_of(divisors: &[u32; 32], count: usize) -> Inverses
-    requires { ⌜ (count ≤ 32) × ((i : ℕ) → i < count → (0 < getD (now divisors) i 0) × (getD (now divisors) i 0 ≤ 1000000)) ⌝ }
+    requires { ⌜ (count ≤ 32)
+        × ((i : ℕ) → i < count → (0 < getD (now divisors) i 0) × (getD (now divisors) i 0 ≤ 1000000)) ⌝ }
     ensures { λ r. ⌜ InversesOf (now (divisors .entry)) (r .factors) (r .shifts) count ⌝ }
 {
     let mut factors = [0u32; 32];

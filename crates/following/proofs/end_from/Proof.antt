@@ -1,8 +1,5 @@
 -- `following::end_from` meets its contract. Assumes nothing.
-use Prim.Native.Nat.{_≤_}
 use native.Mathlib.Omega.{arith}
-use borrow.Author.Needs.{needs}
-use lib.ListN.{getD}
 use Rattle.following.specs.Following.{endFrom}
 use Rattle.following.proofs.Ends.{last-period}
 use Rattle.following.proofs.Fours.{each-then, each-given, all-then, all-also}

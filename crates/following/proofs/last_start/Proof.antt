@@ -41,6 +41,10 @@ back-first periods {at} {x} {released} some given is =
       gone = rw own at (gone-first periods published some);
     }
 
+all-less-requires : tie.Need-all-less-requires Inv-loop μ-loop
+all-less-requires c κs =
+    all-also _ (λ x given. own-period _ (given .0) (omega arith)) (c .before .before .pre .1)
+
 loop-holds : tie.Need-loop-holds Inv-loop μ-loop
 loop-holds c =
     let start = c .before .before .before in
@@ -106,7 +110,7 @@ last-start-spec =
     returns
     (λ c. omega (arith, c .before .pre .1 .a .0 .right .few))  -- mul-all-less
     (λ c. omega (arith, c .before .pre .1 .a .0 .right .few))  -- element-copy-out-all-less
-    (λ c κs. all-also _ (λ x given. own-period _ (given .0) (omega arith)) (c .before .before .pre .1))  -- all-less-requires
+    all-less-requires
     (λ c. omega arith)  -- sub-i
     loop-holds
     (λ c. omega (arith, few c))  -- mul-all-taken-by

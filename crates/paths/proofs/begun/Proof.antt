@@ -3,8 +3,7 @@ use Prim.Native.Nat.{ℕ, _+_, _-_, _≤_}
 use mathlib.Core.Path.{_≡_, ap, _∙_}
 use native.Mathlib.Omega.{arith}
 use Rattle.following.specs.Following.{passed, tasksFrom, PublishedAt, PassesOn}
-use Rattle.paths.specs.Walks.{RightChain}
-use Rattle.paths.proofs.Begins.{fewer, firstInstant, first-published, first-passes-on, first-near}
+use Rattle.paths.proofs.Begins.{fewer, first-published, first-passes-on, first-near}
 use Rattle.paths.proofs.begun.Statement.{statement}
 use Rattle.paths.proofs.begun.Tie as tie
 

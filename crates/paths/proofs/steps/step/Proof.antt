@@ -1,6 +1,6 @@
 -- `paths::steps::step` meets its contract. Assumes nothing.
-use Prim.Native.Nat.{ℕ, _+_, _<_, _≤_}
-use mathlib.Core.Path.{_≡_, refl, sym, ap, _∙_}
+use Prim.Native.Nat.{ℕ, _+_, _≤_}
+use mathlib.Core.Path.{_≡_, refl, sym, ap}
 use native.Mathlib.Omega.{arith}
 use lib.ListN.{getD}
 use Rattle.following.specs.Following.{PublishedAt, lastStart, endFrom}

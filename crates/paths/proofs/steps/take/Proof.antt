@@ -21,7 +21,8 @@ returns-3 c count at taking =
     let other = same .before .before in
     let within = other .before .before in
     rw (c .moved-to2 .ensures)
-    (end-kept (within .before .before .args .periods .now) taking (within .if1 .left) (other .if2 .left) (same .if3 .taken))
+    (end-kept (within .before .before .args .periods .now) taking (within .if1 .left) (other .if2 .left)
+    (same .if3 .taken))
 
 with-path-requires : tie.Need-with-path-requires
 with-path-requires c κs =
@@ -37,7 +38,8 @@ returns-4 c count at taking =
     let other = later .before .before in
     let within = other .before .before in
     rw (c .moved-to3 .ensures, c .before .with-path .ensures)
-    (path-taken (within .before .before .args .periods .now) taking (within .if1 .left) (other .if2 .left) (later .if3 .left))
+    (path-taken (within .before .before .args .periods .now) taking (within .if1 .left) (other .if2 .left)
+    (later .if3 .left))
 
 pub take-spec : {M : Type 1} → statement M
 take-spec =
