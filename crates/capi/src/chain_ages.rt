@@ -5,8 +5,8 @@ ghost use Rattle.capi.specs.Said.{agesSaid};
 use crate::LiskobranAges;
 use questions::AgesAnswer;
 
-// How many basic paths a chain of the image's table has in a round, their longest length, their worst and best age, and the
-// jitter.
+// How many basic paths a chain of the image's table has in a round, their longest length, their worst and best age, and
+// the jitter.
 #[no_mangle]
 pub extern "C" fn liskobran_ages_slice(image: &[u8], chain: u64) -> LiskobranAges
     ensures { λ r. ⌜ r ≡ agesSaid (ages (now (image .entry)) chain) ⌝ }

@@ -1,6 +1,6 @@
 -- The chain of a table's tasks, by their periods; and its round. Assumes nothing.
 use Prim.Native.Nat.{ℕ, zero, suc, _+_, _-_, _<_, _≤_}
-use mathlib.Core.Path.{_≡_, refl, sym, ap, ap₂, _∙_}
+use mathlib.Core.Path.{_≡_, refl, ap, ap₂, _∙_}
 use mathlib.Core.Logic.{by-cases}
 use mathlib.Core.List.{List, [], _∷_, map}
 use native.Mathlib.Nat.{add-zero}
@@ -12,7 +12,7 @@ use Rattle.times.specs.Releases.{Timing, every}
 use Rattle.times.specs.Hyperperiod.{lcmOf}
 use Rattle.table.specs.Table.{periodOf, timingOf}
 use Rattle.table.specs.declared.Table.{Table}
-use Rattle.ages.specs.Ages.{Chain, roundOf, chainTimings}
+use Rattle.ages.specs.Ages.{roundOf, chainTimings}
 use Rattle.following.specs.Following.{tasksFrom, chainBy, PeriodsOf}
 
 -- one period more

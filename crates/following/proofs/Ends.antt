@@ -1,13 +1,13 @@
 -- The end of a start, by the instants at which the tasks publish; and that it comes soon. Assumes nothing.
 use Prim.Native.Nat.{ℕ, zero, suc, _+_, _*_, _-_, _<_, _≤_}
-use mathlib.Core.Path.{_≡_, refl, sym, ap, _∙_}
+use mathlib.Core.Path.{_≡_, refl, sym, _∙_}
 use mathlib.Core.List.{List, [], _∷_, _++_}
 use native.Mathlib.Omega.{arith}
 use lib.ListN.{getD}
 use Rattle.lists.proofs.All.{All, all-also}
 use Rattle.times.specs.Releases.{Timing, every, jobEnd, firstFrom}
 use Rattle.ages.specs.Ages.{follow, endOf}
-use Rattle.ages.proofs.Rising.{HasPeriod, Timed, end-at-least}
+use Rattle.ages.proofs.Rising.{HasPeriod, Timed}
 use Rattle.following.specs.Following.{passed, tasksFrom, chainBy, endFrom, RightPeriods}
 use Rattle.following.proofs.Backwards.{InRange, passed-append, passed-rises, passed-soon}
 use Rattle.following.proofs.Tasks.{tasks-more, tasks-parted, tasks-in-range, length-tasks}
@@ -60,7 +60,8 @@ module _ (periods : List ℕ) where
     published-end t = followed (count - 1) t (omega arith) ∙ passed-parted count at t inside
 
     -- the end of a start, from the instant at which task number `at` publishes it
-    pub end-from : (t : ℕ) → endOf (chainBy periods count) t ≡ endFrom periods at count (passed (tasksFrom periods 1 at) t)
+    pub end-from : (t : ℕ)
+        → endOf (chainBy periods count) t ≡ endFrom periods at count (passed (tasksFrom periods 1 at) t)
     unfolding endFrom
     end-from t = omega (arith, published-end t)
 
@@ -97,11 +98,10 @@ module _ (periods : List ℕ) where
           length-tasks periods (at + 1) n,
         )
 
-    pub passed-at-soon : (t : ℕ) → passed (tasksFrom periods 1 at) t ≤ t + 16000000
+    pub passed-at-soon : (t : ℕ) → passed (tasksFrom periods 1 at) t ≤ t + 2000000 * at
     passed-at-soon t =
         omega (
           arith,
-          right .few,
           passed-soon (tasksFrom periods 1 at) (tasks-in-range periods right 1 at (omega arith)) t,
           length-tasks periods 1 at,
         )

@@ -8,9 +8,9 @@ use native.Mathlib.Nat.{dvd-refl}
 use native.Mathlib.Omega.{arith}
 use lib.ListN.{getD}
 use Rattle.times.specs.Releases.{every, isRelease, lastTo}
-use Rattle.times.proofs.Releases.{lastTo-is}
+use Rattle.times.proofs.Releases.{lastTo-is, lastTo-at-most}
 use Rattle.times.proofs.ReleasesRepeat.{release-repeats}
-use Rattle.following.specs.Following.{passed, lastFor, tasksFrom, lastStart, RightPeriods, PublishedAt}
+use Rattle.following.specs.Following.{passed, lastFor, tasksFrom, lastStart, PublishedAt}
 use Rattle.following.proofs.Backwards.{job-by, passed-append, lastFor-append}
 use Rattle.following.proofs.Tasks.{tasks-more}
 
@@ -53,6 +53,7 @@ module _ (periods : List ℕ) where
     pub within : i ≤ at
     pub same : lastFor (tasksFrom periods 1 i) instant ≡ lastFor (tasksFrom periods 1 at) x
     pub since : passed (tasksFrom periods 1 i) 0 ≤ instant
+    pub near : instant ≤ x
 
   module _ {at x : ℕ} (published : PublishedAt periods at x) where
     positive : (i : ℕ) → i ≤ at → 0 < getD periods i 0
@@ -70,6 +71,7 @@ module _ (periods : List ℕ) where
           within = omega arith;
           same = ap (lastFor (tasksFrom periods 1 (at - 1))) (sym own) ∙ back-turn at x some;
           since = rw own at since;
+          near = omega arith;
         }
 
     module _ {i instant : ℕ} (gone : GoneBack at x i instant) (some : 0 < i) where
@@ -81,6 +83,7 @@ module _ (periods : List ℕ) where
         within = omega (arith, gone .within);
         same = back-turn i instant some ∙ gone .same;
         since = since-turn i instant some (positive i (gone .within)) (gone .since) .1;
+        near = omega (arith, gone .near, lastTo-at-most (every (getD periods i 0)) (instant - getD periods i 0));
       }
 
     -- to the start

@@ -1,21 +1,21 @@
 -- Which starts a task of the chain has published by an instant: those up to the last start for it; and that it publishes
 -- a start at a release of its own. Assumes nothing.
 use Prim.Native.Nat.{ℕ, zero, suc, _+_, _<_, _≤_}
-use mathlib.Core.Path.{_≡_, sym, ap, _∙_}
+use mathlib.Core.Path.{_≡_, _∙_}
 use mathlib.Core.Bool.{true}
 use mathlib.Core.Logic.{by-cases}
 use mathlib.Core.List.{List}
 use native.Mathlib.Nat.{dvd-refl}
-use native.Mathlib.Decide.{decLe, decLt}
+use native.Mathlib.Decide.{decLe}
 use native.Mathlib.Omega.{arith}
 use lib.ListN.{getD}
 use Rattle.lists.proofs.All.{All, all-also}
-use Rattle.times.specs.Releases.{every, isRelease, jobEnd, firstFrom, lastTo}
+use Rattle.times.specs.Releases.{every, isRelease, jobEnd, firstFrom}
 use Rattle.times.proofs.Releases.{firstFrom-is-release, lastTo-is-release, lastTo-at-most, lastTo-last, releases-apart}
 use Rattle.times.proofs.ReleasesRepeat.{release-repeats}
 use Rattle.ages.proofs.Rising.{HasPeriod}
-use Rattle.following.specs.Following.{passed, lastFor, tasksFrom, lastStart, RightPeriods, PublishedAt}
-use Rattle.following.proofs.Backwards.{InRange, passed-append, passed-rises, passed-by, by-passed}
+use Rattle.following.specs.Following.{passed, lastFor, tasksFrom, lastStart, PublishedAt}
+use Rattle.following.proofs.Backwards.{InRange, passed-append, passed-by, by-passed}
 use Rattle.following.proofs.Tasks.{tasks-more, tasks-in-range}
 
 module _ (periods : List ℕ) where

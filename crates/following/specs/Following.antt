@@ -1,6 +1,6 @@
 -- A chain followed forwards and backwards, by its tasks' periods. No contract of a question cites this file. Assumes
 -- nothing.
-use Prim.Native.Nat.{ℕ, zero, suc, _+_, _-_, _<_, _≤_}
+use Prim.Native.Nat.{ℕ, zero, suc, _+_, _*_, _-_, _<_, _≤_}
 use mathlib.Core.Bool.{true}
 use mathlib.Core.Path.{_≡_}
 use mathlib.Core.List.{List, [], _∷_}
@@ -60,4 +60,4 @@ pub record PassesOn (periods : List ℕ) (at count x : ℕ) : Type 0 where
   pub some : 2 ≤ count
   pub inside : at < count
   pub since : passed (tasksFrom periods 1 at) 0 ≤ x
-  pub near : x ≤ 100000000
+  pub near : x + 2000000 * (count - (at + 1)) ≤ 32000000

@@ -1,2 +1,3 @@
 -- Definitions of this crate.
 pub mod Following
+pub mod Fours

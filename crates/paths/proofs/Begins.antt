@@ -1,7 +1,7 @@
 -- Where a walk begins, and where it ends: at first no path has been counted, since the starts up to the last one that is
 -- published with the first have the same end; and at the round's end all paths of the round have. No contract cites this
 -- file. Assumes nothing.
-use Prim.Native.Nat.{ℕ, suc, _+_, _<_, _≤_, min}
+use Prim.Native.Nat.{ℕ, suc, _<_, _≤_, min}
 use mathlib.Core.Path.{_≡_, refl, sym, ap, _∙_}
 use mathlib.Core.Logic.{by-cases}
 use mathlib.Core.List.{List, []}
@@ -10,7 +10,7 @@ use native.Mathlib.Decide.{decLe}
 use native.Mathlib.Omega.{arith}
 use lib.ListN.{getD}
 use Rattle.lists.specs.Lists.{eachBelow}
-use Rattle.times.specs.Releases.{every, release}
+use Rattle.times.specs.Releases.{every}
 use Rattle.times.proofs.Releases.{release-number}
 use Rattle.times.proofs.ReleaseNumbers.{release-next}
 use Rattle.following.specs.Following.{chainBy, passed, tasksFrom, lastStart, endFrom, RightPeriods, PublishedAt}
@@ -19,7 +19,7 @@ use Rattle.following.proofs.Backwards.{passed-rises}
 use Rattle.following.proofs.Ends.{end-from, tasks-timed, passed-at-soon}
 use Rattle.following.proofs.Starts.{published-released, last-is-start, by-start}
 use Rattle.paths.specs.declared.Walk.{Walk}
-use Rattle.paths.specs.Walks.{Sums, pathsBelow, starts, RightChain, SumsOfRound, Walks}
+use Rattle.paths.specs.Walks.{pathsBelow, starts, RightChain, SumsOfRound, Walks, firstWalk}
 use Rattle.paths.proofs.Inside.{zero-released, release-of-round}
 use Rattle.paths.proofs.Stretches.{Alike, paths-alike, release-rises}
 use Rattle.paths.proofs.SumsMore.{sums-none}
@@ -49,11 +49,15 @@ module _ (periods : List ℕ) {count at round : ℕ} (right : RightChain periods
     some = right .some;
     inside = inside;
     since = le-refl firstInstant;
-    near = omega (arith, passed-at-soon periods (right .right) (right .some) inside 0);
+    near = omega (arith, passed-at-soon periods (right .right) (right .some) inside 0, right .right .few);
   }
 
+  pub first-near : firstInstant ≤ 32000000
+  first-near = omega (arith, passed-at-soon periods (right .right) (right .some) inside 0, right .right .few)
+
   -- and with it the starts up to the last one then
-  first-alike : Alike (chainBy periods count) 0 (lastStart periods at firstInstant) (endFrom periods at count firstInstant)
+  first-alike
+      : Alike (chainBy periods count) 0 (lastStart periods at firstInstant) (endFrom periods at count firstInstant)
   first-alike = record {
     start = last-is-start periods first-published;
     ends = λ t start late before.
@@ -67,15 +71,7 @@ module _ (periods : List ℕ) {count at round : ℕ} (right : RightChain periods
   first-timed : 0 < getD periods 0 0
   first-timed = omega (arith, right .right .each 0 (omega arith))
 
-  pub begun : Walks periods count at round (record {
-    instant = firstInstant;
-    start = lastStart periods at firstInstant;
-    end = endFrom periods at count firstInstant;
-    paths = 0;
-    longest = 0;
-    worst = 0;
-    best = 0;
-  })
+  pub begun : Walks periods count at round (firstWalk periods at count)
   unfolding pathsBelow eachBelow
   begun =
       let chain = chainBy periods count in

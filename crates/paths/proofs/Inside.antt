@@ -1,6 +1,6 @@
 -- What is known of a walk inside a round: its instant is before the one at which the round's end is published, and its
 -- numbers are small. No contract cites this file. Assumes nothing.
-use Prim.Native.Nat.{ℕ, _+_, _/_, _<_, _≤_, _∣_, min}
+use Prim.Native.Nat.{ℕ, _+_, _*_, _/_, _<_, _≤_, _∣_, min}
 use mathlib.Core.Path.{_≡_, sym, ap, _∙_}
 use mathlib.Core.Bool.{true}
 use mathlib.Core.Logic.{by-cases}
@@ -17,7 +17,7 @@ use Rattle.times.proofs.ReleasesRepeat.{release-repeats}
 use Rattle.ages.specs.Ages.{isBasic}
 use Rattle.ages.proofs.Rising.{end-at-least}
 use Rattle.following.specs.Following.{chainBy, passed, tasksFrom}
-use Rattle.following.proofs.Ends.{chain-timed, end-soon, passed-at-soon}
+use Rattle.following.proofs.Ends.{chain-timed, passed-at-soon}
 use Rattle.following.proofs.Starts.{not-by}
 use Rattle.paths.specs.declared.Walk.{Walk}
 use Rattle.paths.specs.Walks.{Walking, starts, pathsBelow}
@@ -50,7 +50,7 @@ module _ (periods : List ℕ) {count at round : ℕ} {walk : Walk} (walking : Wa
       not-by periods (walking .walks .published) round (multiple-released first round (walking .right .whole))
       (omega (arith, walking .walks .start, walking .within))
 
-  pub instant-near : walk .instant < 17000000
+  pub instant-near : walk .instant < 1000000 + 2000000 * at
   instant-near =
       let right = walking .right in
       omega (
@@ -60,12 +60,7 @@ module _ (periods : List ℕ) {count at round : ℕ} {walk : Walk} (walking : Wa
         passed-at-soon periods (right .right) (right .some) (walking .inside) round,
       )
 
-  -- the start, and its end
-  pub end-near : walk .end ≤ walk .start + 16000000
-  end-near =
-      let right = walking .right in
-      omega (arith, walking .walks .end, end-soon periods (right .right) (right .some) (walking .inside) (walk .start))
-
+  -- the start is no later than its end
   pub end-after : walk .start ≤ walk .end
   end-after =
       let right = walking .right in

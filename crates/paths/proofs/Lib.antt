@@ -4,4 +4,5 @@ mod Inside
 mod PathTurns
 mod Stretches
 mod SumsMore
+mod Takes
 mod Turns

@@ -66,6 +66,12 @@ module _ (chain : Chain) (found : List ℕ) (walk : Walk) (sums : Sums chain fou
               rw (own-age, sums .worst, map-append (ageOf chain) found (b ∷ []))
               (sym (largest-more (map (ageOf chain) found) (ageOf chain b)));
           best =
-              rw (own-age, sums .best, sums .paths, map-append (ageOf chain) found (b ∷ []), ← length-map found (ageOf chain))
+              rw (
+                own-age,
+                sums .best,
+                sums .paths,
+                map-append (ageOf chain) found (b ∷ []),
+                ← length-map found (ageOf chain),
+              )
               (sym (least-more (map (ageOf chain) found) (ageOf chain b)));
         }

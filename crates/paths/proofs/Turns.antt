@@ -7,6 +7,7 @@ use mathlib.Core.List.{List}
 use native.Mathlib.Omega.{arith}
 use lib.ListN.{getD}
 use Rattle.times.specs.Releases.{every, isRelease}
+use Rattle.table.specs.Rules.{FromTo}
 use Rattle.ages.specs.Ages.{Chain, endOf}
 use Rattle.ages.proofs.Rising.{end-rises}
 use Rattle.following.specs.Following.{chainBy, lastStart, endFrom, PublishedAt, PassesOn}
@@ -41,16 +42,24 @@ module _ (periods : List ℕ) {count at round : ℕ} {walk : Walk} (walking : Wa
   pub published-again : PublishedAt periods at nextInstant
   published-again = published-next periods (walking .walks .published)
 
-  pub passes-on : PassesOn periods at count nextInstant
-  passes-on =
+  -- up to four periods later the chain can be followed
+  pub passes-on : {x : ℕ} → PublishedAt periods at x → x ≤ walk .instant + 4000000 → PassesOn periods at count x
+  passes-on published soon =
       let right = walking .right in
       record {
         right = right .right;
         some = right .some;
         inside = walking .inside;
-        since = published-again .since;
-        near = omega (arith, instant-near periods walking, right .right .each at (walking .inside));
+        since = published .since;
+        near = omega (arith, instant-near periods walking, walking .inside, right .right .few);
       }
+
+  pub near : (x : ℕ) → x ≤ walk .instant + 4000000 → x ≤ 32000000
+  near x soon =
+      omega (arith, instant-near periods walking, walking .inside, walking .right .right .few)
+
+  pub period-small : FromTo 1 1000000 (getD periods at 0)
+  period-small = walking .right .right .each at (walking .inside)
 
   -- no start is published
   pub no-start : nextStart ≡ walk .start → Walks periods count at round (movedTo walk nextInstant nextStart (walk .end))
@@ -110,6 +119,6 @@ module _ (periods : List ℕ) {count at round : ℕ} {walk : Walk} (walking : Wa
         let first = right .right .each 0 (omega (arith, walking .inside)) in (
           end-after periods walking,
           no-earlier,
-          omega (arith, soon, first, passes-on .near),
+          omega (arith, soon, first, near nextInstant (omega (arith, period-small))),
           few-paths periods walking,
         )

@@ -7,7 +7,7 @@ use lib.ListN.{length, getD}
 use Rattle.lists.specs.Lists.{eachBelow, onlyIf}
 use Rattle.times.specs.Releases.{release}
 use Rattle.ages.specs.Ages.{Chain, endOf, isBasic, lengthOf, ageOf, largest, least}
-use Rattle.following.specs.Following.{chainBy, lastStart, RightPeriods, PublishedAt}
+use Rattle.following.specs.Following.{chainBy, passed, tasksFrom, lastStart, endFrom, RightPeriods, PublishedAt}
 use Rattle.paths.specs.declared.Walk.{Walk}
 
 -- the basic paths among the first n starts
@@ -76,9 +76,38 @@ pub record Walks (periods : List ℕ) (count at round : ℕ) (walk : Walk) : Typ
   pub numbered : release (chainBy periods count .first) number ≡ walk .start
   pub sums : Sums (chainBy periods count) (pathsBelow (chainBy periods count) (min number (starts periods round))) walk
 
+-- the walk at the instant at which the task publishes the first start
+abbrev pub firstWalk : (periods : List ℕ) (at count : ℕ) → Walk
+firstWalk periods at count = record {
+  instant = passed (tasksFrom periods 1 at) 0;
+  start = lastStart periods at (passed (tasksFrom periods 1 at) 0);
+  end = endFrom periods at count (passed (tasksFrom periods 1 at) 0);
+  paths = 0;
+  longest = 0;
+  worst = 0;
+  best = 0;
+}
+
 -- inside a round, along the releases of task number `at`
 pub record Walking (periods : List ℕ) (count at round : ℕ) (walk : Walk) : Type 0 where
   pub right : RightChain periods count round
   pub inside : at < count
   pub walks : Walks periods count at round walk
   pub within : walk .start < round
+
+-- what the task publishes next, where the walk is inside the round: the last start that it has then published, and that
+-- start's end
+pub record Taking (periods : List ℕ) (count at round : ℕ) (walk : Walk) (instant start end : ℕ) : Type 0 where
+  pub right : RightChain periods count round
+  pub inside : at < count
+  pub walks : Walks periods count at round walk
+  pub next : walk .start < round → instant ≡ walk .instant + getD periods at 0
+  pub last : start ≡ lastStart periods at instant
+  pub ends : end ≡ endFrom periods at count instant
+
+-- the walk has gone on to that instant, unless the round was over
+pub record Taken (periods : List ℕ) (count at round : ℕ) (walk : Walk) (instant : ℕ) (r : Walk) : Type 0 where
+  pub walks : Walks periods count at round r
+  pub on : r .start < round → r .instant ≡ instant
+  pub no-earlier : walk .instant ≤ r .instant
+  pub later : walk .start < round → walk .instant < r .instant

@@ -1,29 +1,59 @@
-// From one release of a task of the chain to its next.
+// From one release of a task of the chain to its next, four of them at once.
 ghost use Prim.Native.Nat.{ℕ, _<_};
-ghost use Rattle.paths.specs.Walks.{Walks, Walking};
+ghost use Rattle.quotients.specs.Inverses.{InversesOf};
+ghost use Rattle.paths.specs.Walks.{Walks, Walking, Taking, Taken};
 use crate::Walk;
 use crate::sums::moved_to;
 use crate::sums::with_path;
 use following::end_from;
+use following::four::Four;
 use following::last_start;
 
-// What task number `at` publishes next. The starts after the last one that it had published, up to the last one that it
-// publishes now, have the same end; so the one before them is a basic path where it ends earlier, and none of them but the
-// last may be one.
-pub(crate) fn step(periods: &[u32; 32], at: usize, count: usize, walk: Walk) -> Walk
-    requires { ⌜ ((round : ℕ) × Walking (now periods) count at round walk) ⌝ }
-    ensures { λ r. ⌜ ((round : ℕ) → Walking (now (periods .entry)) count at round walk
-        → Walks (now (periods .entry)) count at round r × (walk .instant < r .instant)) ⌝ }
+// What the task publishes next, at `instant`: the last start that it has then published, and that start's end. The starts
+// after the one that the walk has come to have all the same end; so that one is a basic path where it ends earlier, and
+// none of them but the last may be one. Past the round nothing is taken.
+fn take(periods: &[u32; 32], round: u32, walk: Walk, instant: u32, start: u32, end: u32) -> Walk
+    requires { ⌜ ((count : ℕ) × (at : ℕ) × Taking (now periods) count at round walk instant start end) ⌝ }
+    ensures { λ r. ⌜ ((count at : ℕ) → Taking (now (periods .entry)) count at round walk instant start end
+        → Taken (now (periods .entry)) count at round walk instant r) ⌝ }
 {
-    let instant = walk.instant + periods[at];
-    let start = last_start(periods, at, instant);
+    if round <= walk.start {
+        return walk;
+    }
     if start == walk.start {
         return moved_to(walk, instant, start, walk.end);
     }
-    let end = end_from(periods, at, count, instant);
     if end == walk.end {
         return moved_to(walk, instant, start, end);
     }
     let counted = with_path(walk, periods[0], end);
     moved_to(counted, instant, start, end)
+}
+
+// The next four releases of task number `at`, as far as the round goes.
+pub(crate) fn step(
+    periods: &[u32; 32],
+    factors: &[u32; 32],
+    shifts: &[u32; 32],
+    at: usize,
+    count: usize,
+    round: u32,
+    walk: Walk,
+) -> Walk
+    requires { ⌜ Walking (now periods) count at round walk
+        × InversesOf (now periods) (now factors) (now shifts) count ⌝ }
+    ensures { λ r. ⌜ Walks (now (periods .entry)) count at round r × (walk .instant < r .instant) ⌝ }
+{
+    let period = periods[at];
+    let a = walk.instant + period;
+    let b = a + period;
+    let c = b + period;
+    let d = c + period;
+    let instants = Four { a, b, c, d };
+    let starts = last_start(periods, factors, shifts, at, instants);
+    let ends = end_from(periods, factors, shifts, at, count, instants);
+    let first = take(periods, round, walk, a, starts.a, ends.a);
+    let second = take(periods, round, first, b, starts.b, ends.b);
+    let third = take(periods, round, second, c, starts.c, ends.c);
+    take(periods, round, third, d, starts.d, ends.d)
 }

@@ -10,7 +10,7 @@ use Rattle.outcomes.specs.Outcome.{Outcome, gives, askedOf}
 use Rattle.outcomes.proofs.Outcomes.{something-given}
 use Rattle.table.specs.Refusals.{saidOfImage}
 use Rattle.table.specs.Table.{Rows, chainOf}
-use Rattle.table.specs.Image.{Whole, tableOf, rowsOf, readImage}
+use Rattle.table.specs.Image.{Whole, tableOf, readImage}
 use Rattle.table.specs.Shown.{answerOf, nothing, acceptedOr, shownOf}
 use Rattle.table.specs.declared.Answer.the-variants.{Accepted}
 use Rattle.table.specs.declared.Table.{Table}

@@ -1,7 +1,7 @@
 -- The ages of a chain by the test that comes before them, and by what was counted of its basic paths. No contract cites
 -- this file. Assumes nothing.
 use Prim.Native.Nat.{ℕ, _-_, _<_, _≤_, _∣_}
-use mathlib.Core.Path.{_≡_, refl, sym, ap, subst, _∙_}
+use mathlib.Core.Path.{_≡_, sym, ap, _∙_}
 use mathlib.Core.List.{List, []}
 use native.Mathlib.Nat.{le-of-dvd}
 use native.Mathlib.Omega.{arith}
@@ -14,7 +14,7 @@ use Rattle.outcomes.specs.Outcome.{gives, refuses}
 use Rattle.table.specs.Rules.{FromTo}
 use Rattle.table.specs.Table.{Rows, periodOf, chainOf, hyperperiodOf}
 use Rattle.table.specs.declared.Table.{Table}
-use Rattle.ages.specs.Ages.{Ages, firstPeriod, roundOf, basicPaths, worstAge, bestAge, agesOf, agesOfChain, chainTimings}
+use Rattle.ages.specs.Ages.{roundOf, basicPaths, worstAge, bestAge, agesOf, agesOfChain, chainTimings}
 use Rattle.ages.proofs.OfTable.{chain-timed}
 use Rattle.ages.proofs.Reached.{best-at-most-worst}
 use Rattle.following.specs.Following.{chainBy, PeriodsOf, RightPeriods}
@@ -101,7 +101,9 @@ module _ (table : Table) (rows : Rows) (chain : ℕ) where
             (sums : SumsOfRound periods count round walk)
           where
             of-round : round ≡ roundOf (chainBy periods count)
-            of-round = is ∙ sym (chain-round periods count (omega (arith, count-in-range .0)) (omega (arith, count-in-range .1)))
+            of-round =
+                is
+                ∙ sym (chain-round periods count (omega (arith, count-in-range .0)) (omega (arith, count-in-range .1)))
 
             counted : agesOf (chainBy periods count) ≡ record {
               paths = walk .paths;

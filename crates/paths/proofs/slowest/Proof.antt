@@ -1,5 +1,6 @@
--- `paths::slowest` meets its contract: it is a task of the chain. The measure is the number of tasks left. Assumes nothing.
-use Prim.Native.Nat.{_-_, _<_, _≤_}
+-- `paths::slowest` meets its contract: it is a task of the chain. The measure is the number of tasks left. Assumes
+-- nothing.
+use Prim.Native.Nat.{_-_, _<_}
 use mathlib.Core.Logic.{⊎-elim}
 use native.Mathlib.Omega.{arith}
 use Rattle.paths.proofs.slowest.Statement.{statement}

@@ -1,12 +1,9 @@
 -- `questions::chain_ages::ages_of` meets its contract. Assumes nothing.
-use Prim.Native.Nat.{_<_}
 use mathlib.Core.Path.{_≡_, sym}
-use mathlib.Core.List.{[]}
 use native.Mathlib.Omega.{arith}
 use borrow.Author.Needs.{needs}
 use lib.ListN.{length, getD, take}
 use Rattle.times.specs.Hyperperiod.{lcmOf}
-use Rattle.following.specs.Following.{PeriodsOf}
 use Rattle.questions.proofs.ChainAged.{chain-unknown, count-in-range, task-known, round-within, right-chain}
 use Rattle.questions.proofs.ChainAged.{best-first, chain-aged}
 use Rattle.questions.proofs.chain_ages.ages_of.Statement.{statement}
