@@ -79,6 +79,17 @@ pub fn largest_example() -> Description {
     table(&mut Random::new(1), &Size::largest(360))
 }
 
+/// A text of more than 2,000,000 bytes: on eight cores, with every listing nearly as long as is printed,
+/// 32 tasks, all but one of period 1, and 64 labels that all others read.
+pub fn longest_text() -> Description {
+    let others = |label| (0..32).filter(|&task| task != label % 32).collect();
+    let mut tasks: Vec<(u64, u64)> = (0..32).map(|task| (task % 8, 1)).collect();
+    tasks[31].1 = 174;
+    let labels = (0..64).map(|label| (label % 32, others(label))).collect();
+    let chains = vec![vec![0, 31, 1, 2, 3, 4, 5, 31]; 16];
+    Description { cores: 8, tasks, labels, chains }
+}
+
 fn base(random: &mut Random, most: u64) -> u64 {
     let rich: Vec<u64> = RICH.into_iter().filter(|&number| number <= most).collect();
     if rich.is_empty() || random.below(3) == 0 {

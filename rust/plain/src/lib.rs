@@ -6,6 +6,7 @@
 
 pub mod ages;
 pub mod along;
+pub mod frames;
 pub mod listing;
 pub mod pairs;
 pub mod parts;
@@ -13,3 +14,4 @@ pub mod pen;
 pub mod points;
 pub mod reading;
 pub mod tables;
+pub mod text;

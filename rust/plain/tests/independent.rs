@@ -5,11 +5,12 @@
 
 use independent::make::Description;
 use independent::random::Random;
-use independent::tables::{table, Size};
+use independent::tables::{longest_text, table, Size};
 use plain::ages::{ages, ages_by_every_start, Ages};
 use plain::listing::listing;
 use plain::reading::Refusal;
 use plain::tables;
+use plain::text::print;
 
 fn refused(refusal: independent::Refusal) -> Refusal {
     (refusal.number, refusal.place)
@@ -54,6 +55,13 @@ fn check_ages(image: &[u8]) {
     }
 }
 
+/// All that is printed.
+fn check_text(image: &[u8]) {
+    let mut text = Vec::new();
+    print(image, &mut text).unwrap();
+    assert!(text == independent::print(image).as_bytes(), "the text of {image:02x?} differs");
+}
+
 /// Tables of every size, with longer rounds where they are smaller.
 fn any_table(random: &mut Random) -> Description {
     let size = match random.below(8) {
@@ -74,6 +82,7 @@ fn random_tables() {
         let image = any_table(&mut random).image();
         check_listings(&image);
         check_ages(&image);
+        check_text(&image);
     }
 }
 
@@ -89,6 +98,7 @@ fn damaged_images() {
             check_listing(&image, core, 100_000);
         }
         check_ages(&image[..byte]);
+        check_text(&image);
     }
 }
 
@@ -130,6 +140,9 @@ fn the_benchmarks_tables() {
     for table in [tables::example(), tables::of_three(), tables::most_paths(), tables::rare_paths()]
     {
         check_ages(&table.image());
+    }
+    for table in [tables::dense(22), tables::dense(23), longest_text()] {
+        check_text(&table.image());
     }
     assert_eq!(ages(&tables::most_paths().image(), 0).unwrap().paths, 55_440);
     assert_eq!(ages(&tables::rare_paths().image(), 0).unwrap().paths, 999);

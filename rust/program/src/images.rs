@@ -2,10 +2,10 @@
 
 use independent::make::Description;
 use independent::random::Random;
-use independent::tables::{largest_example, table, Size};
+use independent::tables::{largest_example, longest_text, table, Size};
 
 use crate::damage::{any_bytes, changed, cut, filled, flipped, longer, other_periods};
-use crate::limits::{beyond, longest_text, within};
+use crate::limits::{beyond, within};
 
 pub struct Image {
     pub kind: &'static str,

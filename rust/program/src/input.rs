@@ -9,10 +9,9 @@ use std::thread::sleep;
 use std::time::Duration;
 
 use independent::print;
-use independent::tables::largest_example;
+use independent::tables::{largest_example, longest_text};
 
 use crate::images::example;
-use crate::limits::longest_text;
 use crate::process::{Did, Program};
 
 /// A way, what the program did and what it has to do.

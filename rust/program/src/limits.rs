@@ -68,14 +68,3 @@ pub fn within() -> Vec<Description> {
 pub fn beyond() -> Vec<Description> {
     needing(ROOM + 1)
 }
-
-/// On eight cores, every listing nearly as long as may be: 32 tasks, all but one of period 1, and 64
-/// labels that all others read.
-pub fn longest_text() -> Description {
-    let others = |label| (0..32).filter(|&task| task != label % 32).collect();
-    let mut tasks: Vec<(u64, u64)> = (0..32).map(|task| (task % 8, 1)).collect();
-    tasks[31].1 = 174;
-    let labels = (0..64).map(|label| (label % 32, others(label))).collect();
-    let chains = vec![vec![0, 31, 1, 2, 3, 4, 5, 31]; 16];
-    Description { cores: 8, tasks, labels, chains }
-}

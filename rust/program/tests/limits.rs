@@ -3,7 +3,8 @@
 #![forbid(unsafe_code)]
 
 use independent::print;
-use program::limits::{beyond, longest_text, within};
+use independent::tables::longest_text;
+use program::limits::{beyond, within};
 
 #[test]
 fn on_both_sides_of_the_limit() {
