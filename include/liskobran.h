@@ -5,11 +5,12 @@
  * in another way than by the numbers below. An image is given by the address of its first byte and its length in bytes.
  * Where the length is 0 the image is empty, and the address may be anything, also a null pointer. Where it is above 0,
  * that many bytes have to be readable at the address, which no function of C can find out: there a null pointer is an
- * error of the caller's, as is every other address without those bytes.
+ * error of the caller's, as is every other address without those bytes. A lent buffer is given likewise, by its address
+ * and its room in bytes; they have to be writable, and none of them may be a byte of the image.
  *
  * Every answer begins with a number. It is 0 where the question is answered. Else it is one of document 01's numbers
  * that say no, `place` is the bit of the image at which the refusal arose (bit 0 is the top bit of the first byte), and
- * every other field of the answer is 0. Where the number is 0, the place is 0.
+ * every other field of the answer is 0, and a lent buffer holds what it held. Where the number is 0, the place is 0.
  *
  *   No.  When                                                               Place
  *    1   the image ends inside or before the next field                     start of that field
@@ -53,6 +54,25 @@ typedef struct LiskobranPoints {
     uint64_t reading;
 } LiskobranPoints;
 
+/* The copy listing of a core: how many bytes of the lent buffer it takes (number 0), or refused. */
+typedef struct LiskobranListing {
+    uint32_t number;
+    uint64_t place;
+    uint64_t bytes;
+} LiskobranListing;
+
+/* The ages of a chain: how many basic paths, the longest length, the worst and the best age in ticks, and the worst less
+   the best (number 0), or refused. */
+typedef struct LiskobranAges {
+    uint32_t number;
+    uint64_t place;
+    uint32_t paths;
+    uint32_t longest;
+    uint32_t worst;
+    uint32_t best;
+    uint32_t jitter;
+} LiskobranAges;
+
 /*
  * The functions of the archive. They are proved of slices, whose address is not a null pointer even where the length is
  * 0. The functions below give them such an address: call those.
@@ -60,6 +80,9 @@ typedef struct LiskobranPoints {
 LiskobranAnswer liskobran_read_slice(const uint8_t *image, size_t length);
 LiskobranPoints liskobran_points_slice(const uint8_t *image, size_t length, uint64_t writer, uint64_t reader,
                                        uint64_t n);
+LiskobranListing liskobran_listing_slice(const uint8_t *image, size_t length, uint64_t core, uint8_t *buffer,
+                                         size_t room);
+LiskobranAges liskobran_ages_slice(const uint8_t *image, size_t length, uint64_t chain);
 
 /* An address for bytes of which there are none, read or lent: nothing is ever read or written there. */
 static inline uint8_t *liskobran_no_bytes(void)
@@ -83,6 +106,27 @@ static inline LiskobranPoints liskobran_points(const uint8_t *image, size_t leng
                                                uint64_t n)
 {
     return liskobran_points_slice(length == 0 ? liskobran_no_bytes() : image, length, writer, reader, n);
+}
+
+/*
+ * The copy listing of a core, into the first bytes of the buffer; those after it keep their values. Refused with the
+ * image's own number and place; with 12 where the core is not in the table; with 11 where the listing needs more bytes
+ * than the buffer has. No listing needs more than 2,980,000,102.
+ */
+static inline LiskobranListing liskobran_listing(const uint8_t *image, size_t length, uint64_t core, uint8_t *buffer,
+                                                 size_t room)
+{
+    return liskobran_listing_slice(length == 0 ? liskobran_no_bytes() : image, length, core,
+                                   room == 0 ? liskobran_no_bytes() : buffer, room);
+}
+
+/*
+ * The ages of a chain of the image's table. Refused with the image's own number and place; with 12 where the chain is
+ * not in the table.
+ */
+static inline LiskobranAges liskobran_ages(const uint8_t *image, size_t length, uint64_t chain)
+{
+    return liskobran_ages_slice(length == 0 ? liskobran_no_bytes() : image, length, chain);
 }
 
 #ifdef __cplusplus

@@ -21,5 +21,6 @@ pub mod tables;
 pub use ages::Ages;
 pub use image::{read, Label, Table, Task};
 pub use print::print;
-pub use questions::{ages, ages_in, listing, listing_in, listing_length, points, points_in};
+pub use questions::{ages, ages_in, points, points_in};
+pub use questions::{listing, listing_in, listing_length, listing_length_in};
 pub use refusal::Refusal;

@@ -42,7 +42,11 @@ pub fn listing_in(table: &Table, core: u64, buffer: &mut [u8]) -> Result<usize, 
 
 /// The number of bytes of a core's listing.
 pub fn listing_length(image: &[u8], core: u64) -> Result<u64, Refusal> {
-    let (_, need) = measure(&read(image)?, core)?;
+    listing_length_in(&read(image)?, core)
+}
+
+pub fn listing_length_in(table: &Table, core: u64) -> Result<u64, Refusal> {
+    let (_, need) = measure(table, core)?;
     Ok(need.bytes())
 }
 

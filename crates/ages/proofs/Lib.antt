@@ -2,6 +2,7 @@
 pub mod Counted
 mod Extremes
 pub mod OfTable
+pub mod Once
 pub mod Reached
 pub mod Repeats
 pub mod Rising

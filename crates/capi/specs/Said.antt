@@ -1,11 +1,13 @@
 -- What the C interface says, from what is said to a question: number 0 and the answer's values, or the number and the
 -- place of document 01, Numbers that say no, and 0 for each value, since a refusal "carries no other value". Assumes
 -- nothing.
+use Prim.Native.Nat.{ℕ}
 use Rattle.outcomes.specs.Outcome.{Outcome, gives, refuses}
 use Rattle.ages.specs.Ages.{Ages}
 use Rattle.questions.specs.Questions.{Points}
 use Rattle.capi.specs.declared.LiskobranAges.{LiskobranAges}
 use Rattle.capi.specs.declared.LiskobranAnswer.{LiskobranAnswer}
+use Rattle.capi.specs.declared.LiskobranListing.{LiskobranListing}
 use Rattle.capi.specs.declared.LiskobranPoints.{LiskobranPoints}
 
 -- whether an image is accepted
@@ -18,6 +20,11 @@ unfoldable pub pointsSaid : Outcome Points → LiskobranPoints
 pointsSaid (gives points) =
     record { number = 0; place = 0; publishing = points .publishing; reading = points .reading }
 pointsSaid (refuses number place) = record { number = number; place = place; publishing = 0; reading = 0 }
+
+-- how many bytes the listing of a core fills
+unfoldable pub listingSaid : Outcome ℕ → LiskobranListing
+listingSaid (gives bytes) = record { number = 0; place = 0; bytes = bytes }
+listingSaid (refuses number place) = record { number = number; place = place; bytes = 0 }
 
 -- the ages of a chain
 unfoldable pub agesSaid : Outcome Ages → LiskobranAges

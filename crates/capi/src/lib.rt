@@ -3,6 +3,7 @@
 // specs/Said.antt. No function requires anything. A slice has an address that is not null; include/liskobran.h declares
 // the functions for C, and others over them that take an empty image by any address.
 pub mod chain_ages;
+pub mod cores;
 pub mod pairs;
 pub mod reading;
 
@@ -20,6 +21,14 @@ pub struct LiskobranPoints {
     pub place: u64,
     pub publishing: u64,
     pub reading: u64,
+}
+
+// The copy listing of a core: how many bytes of the lent buffer it fills.
+#[repr(C)]
+pub struct LiskobranListing {
+    pub number: u32,
+    pub place: u64,
+    pub bytes: u64,
 }
 
 // The ages of a chain: number of paths, longest length, worst age, best age, jitter.

@@ -21,7 +21,7 @@ use Rattle.instants.proofs.NothingDue.{unmarked, nothing-due}
 use Rattle.instants.proofs.OfTable.{copies-are}
 use Rattle.gathering.specs.Pairs.{codeOf, ownTask}
 use Rattle.gathering.specs.Counters.{tickIn, timingIn, counterFrom}
-use Rattle.counters.specs.Advanced.{stepped, dueOf}
+use Rattle.counters.specs.Advanced.{stepped, nextDue}
 use Rattle.counting.specs.Counting.{pointAt, joinedOf, pairsIn, Counting}
 use Rattle.counting.proofs.OfTable.{pair-listed, joined-joins}
 use Rattle.counting.proofs.OnePair.{pair-points, tick-is}
@@ -35,7 +35,7 @@ module _ (whole : Whole) (rules : MeetsRules whole) (sound : Sound (whole .table
   H = hyperperiodOf table
 
   abbrev nextOf : (kind : Bool) → (t : ℕ) → List ℕ → ℕ
-  nextOf kind t counters = dueOf kind (table .period) t counters .next
+  nextOf kind t counters = nextDue kind (table .period) t counters
 
   module _ {t : ℕ} (inside : t < H) where
     -- of either kind: no pair that the core counts has a point

@@ -20,7 +20,7 @@ use Rattle.instants.proofs.NothingDue.{unmarked}
 use Rattle.gathering.specs.Pairs.{codeOf, ownTask}
 use Rattle.gathering.specs.Counters.{timingIn, counterFrom}
 use Rattle.gathering.proofs.Codes.{code-writer, code-reader, pair-counter, counter-writer, counter-reader}
-use Rattle.counters.specs.Advanced.{dueOf}
+use Rattle.counters.specs.Advanced.{masksDue}
 use Rattle.counting.specs.Counting.{pointAt, joinedOf, pairsIn, Counting}
 use Rattle.counting.proofs.Marks.{dueFor, due-marks}
 use Rattle.counting.proofs.OfTable.{onCore, pair-listed, joined-joins, each-joined}
@@ -73,9 +73,9 @@ module _ (whole : Whole) (rules : MeetsRules whole) (sound : Sound (whole .table
           ∙ same-code (point v s) (point w r) v s w r of-v of-s writes reads (λ e d. rw (e, d))
 
       pub due-kind : {counters : List ℕ} → Counting kind table core t counters
-          → marks (getD (dueOf kind (table .period) t counters .masks) w 0) r
+          → marks (getD (masksDue t counters) w 0) r
           ≡ (eqb (coreOf table (ownTask kind w r)) core && joins table w r && point w r)
-      unfolding dueOf coreOf
+      unfolding coreOf
       due-kind {counters} counting =
           due-marks t w r (replicate 32 0) counters (length-replicate {A = ℕ} 32 0)
           ∙ rw (unmarked w r writes, counting)
@@ -89,7 +89,7 @@ module _ (whole : Whole) (rules : MeetsRules whole) (sound : Sound (whole .table
 
     -- of both
     abbrev masksOf : (kind : Bool) → List ℕ → List ℕ
-    masksOf kind counters = dueOf kind (table .period) t counters .masks
+    masksOf kind counters = masksDue t counters
 
     pub due : {publishing reading : List ℕ}
         → Counting false table core t publishing → Counting true table core t reading

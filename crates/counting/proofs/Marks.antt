@@ -18,7 +18,7 @@ use Rattle.instants.specs.Due.{writerDue}
 use Rattle.instants.proofs.NothingDue.{unmarked}
 use Rattle.gathering.specs.Pairs.{withMask, joinedBelow}
 use Rattle.gathering.specs.Counters.{tickIn, writerIn, readerIn}
-use Rattle.counters.specs.Advanced.{withOne, withDue}
+use Rattle.counters.specs.Advanced.{withOne, folded}
 
 -- one more mask
 with-length : (masks : List ℕ) (v mask : ℕ) → length (withMask masks v mask) ≡ length masks
@@ -78,8 +78,8 @@ module _ (t w r : ℕ) where
       ∙ rw (own-marks (readerIn counter) r (mod-lt counter (lit< tt)))
 
   pub due-marks : (masks counters : List ℕ) → length masks ≡ 32
-      → marks (getD (withDue t masks counters) w 0) r ≡ (marks (getD masks w 0) r || someOf (dueFor t w r) counters)
-  unfolding withDue someOf
+      → marks (getD (folded (withOne t) masks counters) w 0) r ≡ (marks (getD masks w 0) r || someOf (dueFor t w r) counters)
+  unfolding folded someOf
   due-marks masks [] long = sym (or-false _)
   due-marks masks (counter ∷ counters) long =
       due-marks (withOne t masks counter) counters (one-length masks counter ∙ long)

@@ -12,7 +12,7 @@ use Rattle.table.specs.Image.{Whole}
 use Rattle.table.specs.Rules.{MeetsRules}
 use Rattle.table.proofs.Sound.{Sound}
 use Rattle.gathering.specs.Counters.{tickIn, counterFrom}
-use Rattle.counters.specs.Advanced.{stepped, leastOf, dueOf}
+use Rattle.counters.specs.Advanced.{stepped, leastOf, nextDue}
 use Rattle.counting.specs.Counting.{pairsIn, Counting}
 use Rattle.counting.proofs.Least.{least-each, least-has}
 use Rattle.counting.proofs.OfTable.{each-joined}
@@ -72,20 +72,20 @@ module _ (whole : Whole) (rules : MeetsRules whole) (sound : Sound (whole .table
   -- the next tick that is due
   module _ {t : ℕ} (inside : t < H) {counters : List ℕ} (counting : Counting kind table core t counters) where
     abbrev next : ℕ
-    next = dueOf kind (table .period) t counters .next
+    next = nextDue kind (table .period) t counters
 
     gone : Counting kind table core (suc t) (map (step t) counters)
     gone = counting-steps (omega arith) counting
 
     pub next-later : t < next
-    unfolding dueOf
+    unfolding nextDue
     next-later =
         least-has (λ counter. t < tickIn counter) 4294967295 (map (step t) counters)
         (omega (arith, rules .hyperperiod)) (ticks-from inside gone)
 
     -- no counter is before it, and up to it they stay
     pub next-first : All (λ counter. next ≤ tickIn counter) (map (step t) counters)
-    unfolding dueOf
+    unfolding nextDue
     next-first =
         let after = map (step t) counters in
         all-also (λ counter. leastOf 4294967295 after ≤ counter) (λ counter. next ≤ tickIn counter)

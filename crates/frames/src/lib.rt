@@ -7,6 +7,8 @@ pub mod instant;
 
 use counts::count_frames;
 use instant::gather_both;
+use label_masks::read_labels;
+use label_masks::written_labels;
 use table::Table;
 
 // How many frames a core has in a round, and how many copies in all of them.
@@ -19,14 +21,21 @@ pub struct Measured {
 pub fn measure(table: Table, core: u32, round: u32) -> Measured
     ensures { λ r. ⌜ (RightRound table round → CountsFrames table core r) ⌝ }
 {
+    let writer = table.writer;
+    let readers = table.readers;
+    let periods = table.period;
+    let written = written_labels(table.labels, &writer);
+    let read = read_labels(table.labels, table.tasks, &readers);
     let mut publishing = [0u32; 1024];
     let mut reading = [0u32; 1024];
     let both = gather_both(table, core, &mut publishing, &mut reading);
     let first = both.publishing;
     let second = both.reading;
     count_frames(
-        table,
         round,
+        &periods,
+        &written,
+        &read,
         &mut publishing[0..first],
         &mut reading[0..second],
     )

@@ -6,6 +6,8 @@ ghost use Rattle.framing.specs.Written.{WritesListing};
 mod written;
 
 use frames::instant::gather_both;
+use label_masks::read_labels;
+use label_masks::written_labels;
 use packing::Pen;
 use packing::finish;
 use table::Table;
@@ -18,6 +20,11 @@ pub fn write_listing(table: Table, core: u32, round: u32, frames: u32, bytes: &m
     ensures { λ r. ⌜ (RightRound table round
         → WritesListing table core frames (now (bytes .entry)) (now (bytes .exit)) r) ⌝ }
 {
+    let writer = table.writer;
+    let readers = table.readers;
+    let periods = table.period;
+    let written = written_labels(table.labels, &writer);
+    let read = read_labels(table.labels, table.tasks, &readers);
     let mut publishing = [0u32; 1024];
     let mut reading = [0u32; 1024];
     let both = gather_both(table, core, &mut publishing, &mut reading);
@@ -27,8 +34,12 @@ pub fn write_listing(table: Table, core: u32, round: u32, frames: u32, bytes: &m
     let pen = write_frames(
         bytes,
         head,
-        table,
         round,
+        &writer,
+        &readers,
+        &periods,
+        &written,
+        &read,
         &mut publishing[0..first],
         &mut reading[0..second],
     );

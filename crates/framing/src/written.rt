@@ -1,20 +1,21 @@
 // Head and frames, put one after the other.
-ghost use Prim.Native.Nat.{ℕ, _<_, _^_};
+ghost use Prim.Native.Nat.{ℕ, _<_, _≤_, _^_};
+ghost use mathlib.Core.Path.{_≡_};
 ghost use mathlib.Core.List.{[], _∷_, _++_};
+ghost use lib.ListN.{length};
 ghost use Rattle.lists.specs.Lists.{eachOf};
+ghost use Rattle.table.specs.declared.Table.{Table};
 ghost use Rattle.bits.specs.Packing.{bits};
 ghost use Rattle.copies.specs.Copies.{framesOf};
 ghost use Rattle.copies.specs.Listing.{copyFields, frameFields};
-ghost use Rattle.instants.specs.Due.{copiesDue};
+ghost use Rattle.instants.specs.Due.{writesIn, readsIn};
 ghost use Rattle.instants.specs.Puts.{Puts};
 ghost use Rattle.frames.specs.Counts.{RightRound};
-ghost use Rattle.frames.specs.Ready.{Ready};
+ghost use Rattle.frames.specs.Ready.{GoesOver, Ready};
 use frames::instant::instant_at;
-use instants::count_copies;
 use instants::write_copies;
 use packing::Pen;
 use packing::put;
-use table::Table;
 
 // "core 3, H 20, frame count 20"
 pub(crate) fn write_head(bytes: &mut [u8], core: u32, round: u32, frames: u32) -> Pen
@@ -38,57 +39,59 @@ fn write_frame(
     pen: Pen,
     start: u32,
     count: u32,
-    labels: usize,
     writer: &[u32; 64],
     readers: &[u32; 64],
-    publishes: &[u32; 32],
     serves: &[u32; 32],
+    written: u64,
+    read: u64,
 ) -> Pen
     ensures { λ r. ⌜ (start < 2 ^ 20 → count < 2 ^ 12
         → Puts (now (bytes .entry)) (now (bytes .exit)) pen r
-        (bits 20 start ∷ bits 12 count ∷ eachOf (copiesDue labels (now (writer .entry)) (now (readers .entry))
-        (now (publishes .entry)) (now (serves .entry))) copyFields)) ⌝ }
+        (bits 20 start ∷ bits 12 count ∷ eachOf (writesIn (now (writer .entry)) written
+        ++ readsIn (now (writer .entry)) (now (readers .entry)) (now (serves .entry)) read) copyFields)) ⌝ }
 {
     let first = put(bytes, pen, 20, start);
     let second = put(bytes, first, 12, count);
-    write_copies(bytes, second, labels, writer, readers, publishes, serves)
+    write_copies(bytes, second, writer, readers, serves, written, read)
 }
 
 // Instant after instant: a frame where there is a copy. Of a table that is not right an instant may not move on.
 pub(crate) fn write_frames(
     bytes: &mut [u8],
     pen: Pen,
-    table: Table,
     round: u32,
+    writer: &[u32; 64],
+    readers: &[u32; 64],
+    periods: &[u32; 32],
+    written: &[u64; 32],
+    read: &[u64; 32],
     publishing: &mut [u32],
     reading: &mut [u32],
 ) -> Pen
-    ensures { λ r. ⌜ ((core : ℕ) → RightRound table round
+    requires { ⌜ length (now reading) ≤ 1024 ⌝ }
+    ensures { λ r. ⌜ ((table : Table) (core : ℕ) → RightRound table round
+        → (now (writer .entry) ≡ table .writer) × (now (readers .entry) ≡ table .readers)
+        → GoesOver table (now (periods .entry)) (now (written .entry)) (now (read .entry))
         → Ready table core 0 (now (publishing .entry)) (now (reading .entry))
         → Puts (now (bytes .entry)) (now (bytes .exit)) pen r (eachOf (framesOf table core) frameFields)) ⌝ }
 {
-    let writer = table.writer;
-    let readers = table.readers;
-    let periods = table.period;
-    let labels = table.labels;
     let mut ink = pen;
     let mut t: u32 = 0;
     while t < round {
-        let due = instant_at(t, &periods, publishing, reading);
-        let publishes = due.publishes;
-        let serves = due.serves;
-        let count = count_copies(labels, &writer, &readers, &publishes, &serves);
+        let due = instant_at(t, periods, written, read, publishing, reading);
+        let count = due.copies;
         if count > 0 {
+            let serves = due.serves;
             ink = write_frame(
                 bytes,
                 ink,
                 t,
                 count,
-                labels,
-                &writer,
-                &readers,
-                &publishes,
+                writer,
+                readers,
                 &serves,
+                due.written,
+                due.read,
             );
         }
         let next = due.next;

@@ -1,45 +1,53 @@
--- The copies of labels put one label after the other. No contract cites this file. Assumes nothing.
-use Prim.Native.Nat.{ℕ, _+_, min}
-use mathlib.Core.Path.{_≡_, refl}
-use mathlib.Core.List.{List}
-use native.Mathlib.Numerals.{add-one}
-use lib.ListN.{getD}
-use Rattle.lists.specs.Lists.{eachBelow}
-use Rattle.packing.specs.declared.Pen.{Pen}
-use Rattle.instants.specs.Due.{writeDue, readsDue, writerDue, writesDue, allReadsDue, copiesDue}
-use Rattle.instants.specs.Puts.{PutsCopies}
-use Rattle.instants.proofs.Putting.{no-copy, copies-then}
+-- The copies of the labels of a mask put one label after the other. No contract cites this file. Assumes nothing.
+use Prim.Native.Nat.{ℕ, _-_, _^_, _<_, _≤_}
+use mathlib.Core.Path.{_≡_, refl, sym, ap, _∙_}
+use mathlib.Core.List.{List, [], _++_, append-nil, append-assoc}
+use native.Mathlib.Omega.{arith}
+use lib.Count.{leadingZeros}
+use Rattle.masks.specs.Masks.{alone, eachHeld}
+use Rattle.masks.proofs.First.{FirstHeld, first-held, held-none}
+use Rattle.copies.specs.Copies.{Copy}
 
-module _ (writer readers masks : List ℕ) where
-  pub no-writes : (bytes : List ℕ) (pen : Pen) → PutsCopies bytes bytes pen pen (writesDue writer readers masks 0)
-  unfolding writesDue eachBelow
-  no-writes bytes pen = no-copy bytes pen refl
+-- the first label of a mask
+module _ (mask : ℕ) (some : 0 < mask) (few : mask < 2 ^ 64) where
+  pub first-known : leadingZeros 64 mask < 64
+  first-known = first-held {A = ℕ} (λ l. []) 64 mask some few .known
 
-  pub no-reads : (bytes : List ℕ) (pen : Pen) → PutsCopies bytes bytes pen pen (allReadsDue writer readers masks 0)
-  unfolding allReadsDue eachBelow
-  no-reads bytes pen = no-copy bytes pen refl
+  pub first-within : alone 64 (leadingZeros 64 mask) ≤ mask
+  first-within = first-held {A = ℕ} (λ l. []) 64 mask some few .within
 
-  -- one label more
-  pub more-writes : {bytes middle after : List ℕ} {pen next last : Pen} (l : ℕ)
-      → PutsCopies bytes middle pen next (writesDue writer readers masks l)
-      → PutsCopies middle after next last
-      (writeDue (getD readers l 0) (getD masks (writerDue writer l) 0) l (writerDue writer l))
-      → PutsCopies bytes after pen last (writesDue writer readers masks (l + 1))
-  unfolding writesDue eachBelow
-  more-writes l put one = rw add-one (copies-then _ _ put one)
+-- what the labels of a mask have to add
+module _ (adds : ℕ → List Copy) where
+  abbrev all : ℕ → List Copy
+  all mask = eachHeld 64 mask adds
 
-  pub more-reads : {bytes middle after : List ℕ} {pen next last : Pen} (l : ℕ)
-      → PutsCopies bytes middle pen next (allReadsDue writer readers masks l)
-      → PutsCopies middle after next last (readsDue (getD readers l 0) (getD masks (writerDue writer l) 0) l)
-      → PutsCopies bytes after pen last (allReadsDue writer readers masks (l + 1))
-  unfolding allReadsDue eachBelow
-  more-reads l put one = rw add-one (copies-then _ _ put one)
+  -- some of it was put, in whatever form, and the rest is that of the labels left
+  pub record PutBefore (Put : List Copy → Type 0) (mask rest : ℕ) : Type 0 where
+    pub done : List Copy
+    pub put : Put done
+    pub parts : all mask ≡ done ++ all rest
 
--- the writes of all labels, then the reads
-pub copies-put : (labels : ℕ) (writer readers publishes serves : List ℕ) {bytes middle after : List ℕ}
-    {pen next last : Pen} {count : ℕ} → count ≡ min labels 64
-    → PutsCopies bytes middle pen next (writesDue writer readers publishes count)
-    → PutsCopies middle after next last (allReadsDue writer readers serves count)
-    → PutsCopies bytes after pen last (copiesDue labels writer readers publishes serves)
-unfolding copiesDue
-copies-put labels writer readers publishes serves count writes reads = rw (← count) (copies-then _ _ writes reads)
+  pub put-nothing : {Put : List Copy → Type 0} (mask : ℕ) → Put [] → PutBefore Put mask mask
+  put-nothing mask none = record { done = []; put = none; parts = refl }
+
+  -- the first label that is left
+  module _ {rest : ℕ} (some : 0 < rest) (few : rest < 2 ^ 64) where
+    first : FirstHeld adds 64 rest (leadingZeros 64 rest)
+    first = first-held adds 64 rest some few
+
+    pub put-label : {Put More : List Copy → Type 0} {mask l left : ℕ} → PutBefore Put mask rest
+        → l ≡ leadingZeros 64 rest → left ≡ rest - alone 64 l
+        → ((done : List Copy) → Put done → More (done ++ adds l)) → PutBefore More mask left
+    put-label {l = l} before is gone one = record {
+      done = before .done ++ adds l;
+      put = one (before .done) (before .put);
+      parts = rw (gone, is)
+          (before .parts ∙ ap (λ more. before .done ++ more) (first .others) ∙ sym (append-assoc (before .done) _ _));
+    }
+
+  -- when no label is left
+  pub put-all : {Put : List Copy → Type 0} {mask rest : ℕ} → rest ≤ 0 → PutBefore Put mask rest → Put (all mask)
+  put-all {rest = rest} none before =
+      let zero : rest ≡ 0 = omega arith in
+      let same : all rest ≡ [] = rw zero (held-none adds 64) in
+      rw (before .parts, same, append-nil) (before .put)

@@ -1,5 +1,5 @@
 -- Laws of this crate.
-pub mod HowMany
+pub mod ByLabels
 pub mod LabelsPut
 pub mod NothingDue
 pub mod OfTable

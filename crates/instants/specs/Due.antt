@@ -4,11 +4,12 @@
 -- stands for task 0. Tasks are below 32 and labels below 64, as in every accepted table. Assumes nothing.
 use Prim.Native.Nat.{ℕ, _%_, _<_, min}
 use mathlib.Core.Bool.{Bool, _&&_}
-use mathlib.Core.List.{List, _++_}
+use mathlib.Core.List.{List, [], _∷_, _++_}
 use mathlib.Core.Path.{_≡_}
-use lib.Dec.{eqb}
+use lib.Dec.{eqb, ltb}
 use lib.ListN.{getD}
 use Rattle.lists.specs.Lists.{someBelow, eachBelow, onlyIf}
+use Rattle.masks.specs.Masks.{holds, eachHeld}
 use Rattle.times.specs.Points.{publishesAt, servesAt}
 use Rattle.table.specs.Table.{coreOf, timingOf, marks, joins, hyperperiodOf}
 use Rattle.table.specs.declared.Table.{Table}
@@ -45,6 +46,23 @@ allReadsDue writer readers serves labels =
 unfoldable pub copiesDue : (labels : ℕ) → (writer readers publishes serves : List ℕ) → List Copy
 copiesDue labels writer readers publishes serves =
     writesDue writer readers publishes (min labels 64) ++ allReadsDue writer readers serves (min labels 64)
+
+-- the same by masks of labels: the writes of the labels of one mask, and the reads of those of another
+unfoldable pub writesIn : (writer : List ℕ) → (written : ℕ) → List Copy
+writesIn writer written = eachHeld 64 written (λ l. write l (writerDue writer l) ∷ [])
+
+unfoldable pub readsIn : (writer readers serves : List ℕ) → (labels : ℕ) → List Copy
+readsIn writer readers serves labels =
+    eachHeld 64 labels (λ l. readsDue (getD readers l 0) (getD serves (writerDue writer l) 0) l)
+
+-- label l is due by the masks of an instant: some of its readers is marked for its writer
+unfoldable pub isDue : (writer readers masks : List ℕ) → (l : ℕ) → Bool
+isDue writer readers masks l = someBelow 32 (inBoth (getD readers l 0) (getD masks (writerDue writer l) 0))
+
+-- a mask of labels holds those of the first labels that are due
+abbrev pub HoldsDue : (labels : ℕ) (writer readers masks : List ℕ) (held : ℕ) → Type 0
+HoldsDue labels writer readers masks held =
+    (l : ℕ) → l < 64 → holds 64 held l ≡ (ltb l labels && isDue writer readers masks l)
 
 -- the masks of an instant and a core of a table: a writer's mask marks a task where a label goes from the one to the
 -- other, the instant is a point of the pair and the copy belongs to the core

@@ -1,10 +1,12 @@
 // The writes and the reads of labels, put into lent bytes (document 01, Copies and frames: "each copy as kind 1 (0
 // write, 1 read), label 6, task 5").
 ghost use mathlib.Core.List.{[], _∷_};
-ghost use Prim.Native.Nat.{_<_, _≤_};
+ghost use Prim.Native.Nat.{_<_};
 ghost use Rattle.bits.specs.Packing.{bits};
-ghost use Rattle.instants.specs.Due.{writeDue, readsDue, writesDue, allReadsDue};
+ghost use Rattle.instants.specs.Due.{readsDue, writesIn, readsIn};
 ghost use Rattle.instants.specs.Puts.{Puts, PutsCopies};
+use crate::labels::first_label;
+use crate::labels::without;
 use packing::Pen;
 use packing::put;
 use readers::next_reader;
@@ -18,45 +20,17 @@ fn put_copy(bytes: &mut [u8], pen: Pen, kind: u32, label: u32, task: u32) -> Pen
     put(bytes, pen, 12, kind * 2048 + label * 32 + task)
 }
 
-// The write of one label, where it is due.
-fn write_of(
-    bytes: &mut [u8],
-    pen: Pen,
-    label: u32,
-    writer: u32,
-    readers: u32,
-    publishes: u32,
-) -> Pen
-    requires { ⌜ (label < 64) × (writer < 32) ⌝ }
+// The writes of the labels of a mask, by rising label.
+pub(crate) fn write_writes(bytes: &mut [u8], pen: Pen, writer: &[u32; 64], written: u64) -> Pen
     ensures { λ r. ⌜ PutsCopies (now (bytes .entry)) (now (bytes .exit)) pen r
-        (writeDue readers publishes label writer) ⌝ }
-{
-    let wanted = readers & publishes;
-    if wanted == 0 {
-        return pen;
-    }
-    put_copy(bytes, pen, 0, label, writer)
-}
-
-// The writes of the first labels.
-pub(crate) fn write_writes(
-    bytes: &mut [u8],
-    pen: Pen,
-    labels: usize,
-    writer: &[u32; 64],
-    readers: &[u32; 64],
-    publishes: &[u32; 32],
-) -> Pen
-    requires { ⌜ labels ≤ 64 ⌝ }
-    ensures { λ r. ⌜ PutsCopies (now (bytes .entry)) (now (bytes .exit)) pen r
-        (writesDue (now (writer .entry)) (now (readers .entry)) (now (publishes .entry)) labels) ⌝ }
+        (writesIn (now (writer .entry)) written) ⌝ }
 {
     let mut last = pen;
-    let mut l: usize = 0;
-    while l < labels {
-        let w = writer[l] % 32;
-        last = write_of(bytes, last, l as u32, w, readers[l], publishes[w as usize]);
-        l += 1;
+    let mut rest = written;
+    while rest > 0 {
+        let l = first_label(rest);
+        last = put_copy(bytes, last, 0, l, writer[l as usize] % 32);
+        rest = without(rest, l);
     }
     last
 }
@@ -79,25 +53,25 @@ fn reads_of(bytes: &mut [u8], pen: Pen, label: u32, readers: u32, serves: u32) -
     last
 }
 
-// The reads of the first labels.
+// The reads of the labels of a mask, by rising label.
 pub(crate) fn write_reads(
     bytes: &mut [u8],
     pen: Pen,
-    labels: usize,
     writer: &[u32; 64],
     readers: &[u32; 64],
     serves: &[u32; 32],
+    read: u64,
 ) -> Pen
-    requires { ⌜ labels ≤ 64 ⌝ }
     ensures { λ r. ⌜ PutsCopies (now (bytes .entry)) (now (bytes .exit)) pen r
-        (allReadsDue (now (writer .entry)) (now (readers .entry)) (now (serves .entry)) labels) ⌝ }
+        (readsIn (now (writer .entry)) (now (readers .entry)) (now (serves .entry)) read) ⌝ }
 {
     let mut last = pen;
-    let mut l: usize = 0;
-    while l < labels {
-        let w = (writer[l] % 32) as usize;
-        last = reads_of(bytes, last, l as u32, readers[l], serves[w]);
-        l += 1;
+    let mut rest = read;
+    while rest > 0 {
+        let l = first_label(rest);
+        let w = (writer[l as usize] % 32) as usize;
+        last = reads_of(bytes, last, l, readers[l as usize], serves[w]);
+        rest = without(rest, l);
     }
     last
 }

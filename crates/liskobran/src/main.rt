@@ -1,47 +1,16 @@
 // The printing program (document 01): reads an image from standard input and prints its text, or the one line of its
-// refusal. So far the text is its first line, the hyperperiod.
+// refusal. The text is made whole before anything is written, so that it goes out once and in as few writes as the
+// system takes it.
 use libc::STDIN_FILENO;
 use libc::STDOUT_FILENO;
-use printing::HyperperiodAnswer;
-use table::Refusal;
-
-// A space and a number. The digits that `io` makes are those of the printed text (proofs/Digits.antt).
-fn print_number(number: u64) {
-    io::write_all(STDOUT_FILENO, b" ");
-    io::print_decimal(STDOUT_FILENO, number);
-}
-
-// "one line, `refused`, a space, the number, a space, the place, and nothing else"
-fn print_refusal(refusal: Refusal, place: usize) {
-    io::write_all(STDOUT_FILENO, b"refused");
-    print_number(table::number_of(refusal) as u64);
-    print_number(place as u64);
-    io::write_all(STDOUT_FILENO, b"\n");
-}
-
-fn print_hyperperiod(ticks: u32) {
-    io::write_all(STDOUT_FILENO, b"hyperperiod");
-    print_number(ticks as u64);
-    io::write_all(STDOUT_FILENO, b"\n");
-}
-
-fn print_image(image: &[u8]) {
-    let answer = printing::hyperperiod(image);
-    let HyperperiodAnswer::Refused { refusal, place } = answer else {
-        let HyperperiodAnswer::Hyperperiod { ticks } = answer else {
-            return;
-        };
-        print_hyperperiod(ticks);
-        return;
-    };
-    print_refusal(refusal, place);
-}
 
 // An image of any length is answered by its first 1,024 bytes. No field of a table lies past byte 480; so of an image
 // that is longer than 481 bytes any more than 481 first bytes are answered as the whole is, at the same bit
-// (`first-bytes-decide` in the proofs of `printing`).
+// (`first-bytes-decide` in the proofs of `table`). Where a read fails, the image is what was read before.
 fn main() {
     let mut image = [0u8; 1024];
+    let mut text = whole_texts::room();
     let count = io::read_full(STDIN_FILENO, &mut image);
-    print_image(&image[..count]);
+    let size = whole_texts::put_text(&mut text, &image[0..count]);
+    io::write_all(STDOUT_FILENO, &text[0..size]);
 }

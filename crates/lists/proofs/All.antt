@@ -53,6 +53,11 @@ module _ {A : Type 0} (P : A → Type 0) where
   all-only-if true x of-x = (of-x refl, tt)
   all-only-if false x of-x = tt
 
+-- what holds of everything
+pub all-each : {A : Type 0} {P : A → Type 0} (xs : List A) → ((x : A) → P x) → All P xs
+all-each [] holds = tt
+all-each (x ∷ xs) holds = (holds x, all-each xs holds)
+
 -- each has what follows from the property
 pub all-also : {A : Type 0} (P Q : A → Type 0) → ((x : A) → P x → Q x) → (xs : List A) → All P xs → All Q xs
 all-also P Q also [] all = tt

@@ -8,3 +8,5 @@ pub mod Lists
 pub mod Over
 pub mod Padded
 pub mod SomeOf
+pub mod SomeTold
+pub mod Sums

@@ -1,109 +1,34 @@
 -- Readers fields as masks of 32 bits: `and` and `or` task by task, and one task's own mask. No contract cites this
 -- file. Assumes nothing.
-use Prim.Native.Nat.{ℕ, zero, suc, _+_, _-_, _/_, _%_, _^_, _<_, min, max}
-use mathlib.Core.Path.{_≡_, refl, sym, ap, _∙_}
-use mathlib.Core.Logic.{by-cases}
-use mathlib.Core.Bool.{Bool, true, false, _&&_, _||_}
-use native.Mathlib.Decide.{decLt}
-use native.Mathlib.Nat.{mod-lt, div-eq-of-lt, div-self, pow-suc, mul-mod-left}
+use Prim.Native.Nat.{ℕ, suc, _-_, _/_, _%_, _^_, _<_}
+use mathlib.Core.Path.{_≡_, sym, ap, ap₂, _∙_}
+use mathlib.Core.Bool.{Bool, _&&_, _||_}
 use native.Mathlib.Omega.{arith}
-use borrow.Author.Tests.{eq-eqb, ne-eqb, lt-ltb, le-ltb, eqb-true}
-use lib.Dec.{eqb, ltb, lit<}
-use lib.Arith.{digits-mod}
-use lib.Bits.{bitAnd, bitOr, and-shr, and-step, or-shr, or-step}
-use lib.Pow.{pow-add, pow-lt, pow-pos, shl-shr}
-use Rattle.lists.proofs.Bools.{same-test}
+use lib.Bits.{bitAnd, bitOr}
+use lib.Dec.{eqb, ltb}
+use Rattle.masks.specs.Masks.{holds}
+use Rattle.masks.proofs.Bitwise.{and-holds, or-holds, shifted-alone, alone-holds}
 use Rattle.table.specs.Table.{marks}
 
--- a bit is 0 or 1
-bit-below : (x : ℕ) → x % 2 < 2
-bit-below x = mod-lt x (lit< tt)
-
-bits-cases : (P : ℕ → ℕ → Type 0) → P 0 0 → P 0 1 → P 1 0 → P 1 1 → (x y : ℕ) → x < 2 → y < 2 → P x y
-bits-cases P p q r s zero zero few less = p
-bits-cases P p q r s zero (suc zero) few less = q
-bits-cases P p q r s (suc zero) zero few less = r
-bits-cases P p q r s (suc zero) (suc zero) few less = s
-bits-cases P p q r s (suc (suc x)) y few less = absurd (omega arith)
-bits-cases P p q r s zero (suc (suc y)) few less = absurd (omega arith)
-bits-cases P p q r s (suc zero) (suc (suc y)) few less = absurd (omega arith)
-
--- an operation that goes bit by bit, as a test of tasks
-module _ (op digit : ℕ → ℕ → ℕ) (test : Bool → Bool → Bool)
-    (bitwise : (a b k : ℕ) → op a b / 2 ^ k % 2 ≡ digit (a / 2 ^ k % 2) (b / 2 ^ k % 2))
-    (set : (x y : ℕ) → x < 2 → y < 2 → eqb (digit x y) 1 ≡ test (eqb x 1) (eqb y 1))
-    (unset : test false false ≡ false)
-  where
-    op-marks : (a b i : ℕ) → marks (op a b) i ≡ test (marks a i) (marks b i)
-    unfolding marks
-    op-marks a b i = go (ltb i 32)
-      where
-        go : (known : Bool) → (known && eqb (op a b / 2 ^ (31 - i) % 2) 1)
-            ≡ test (known && eqb (a / 2 ^ (31 - i) % 2) 1) (known && eqb (b / 2 ^ (31 - i) % 2) 1)
-        go true = rw (bitwise a b (31 - i)) (set _ _ (bit-below _) (bit-below _))
-        go false = sym unset
+-- a task is marked where the mask holds it
+pub marks-holds : (mask i : ℕ) → marks mask i ≡ holds 32 mask i
+unfolding marks holds
+marks-holds mask i =
+    let place : 31 - i ≡ 32 - suc i = omega arith in ap (λ k. ltb i 32 && eqb (mask / 2 ^ k % 2) 1) place
 
 -- a task is marked by an `and` where both mark it
 pub and-marks : (a b i : ℕ) → marks (bitAnd a b) i ≡ (marks a i && marks b i)
-and-marks =
-    op-marks bitAnd min _&&_
-    (λ a b k.
-    let low : min (a / 2 ^ k % 2) (b / 2 ^ k % 2) < 2 = omega (arith, bit-below (a / 2 ^ k)) in
-    ap (λ x. x % 2) (and-shr a b k ∙ and-step (a / 2 ^ k) (b / 2 ^ k)) ∙ digits-mod _ low)
-    (bits-cases (λ x y. eqb (min x y) 1 ≡ (eqb x 1 && eqb y 1)) refl refl refl refl)
-    refl
+and-marks a b i =
+    marks-holds (bitAnd a b) i ∙ and-holds 32 a b i ∙ sym (ap₂ _&&_ (marks-holds a i) (marks-holds b i))
 
 -- and by an `or` where one of them marks it
 pub or-marks : (a b i : ℕ) → marks (bitOr a b) i ≡ (marks a i || marks b i)
-or-marks =
-    op-marks bitOr max _||_
-    (λ a b k.
-    let low : max (a / 2 ^ k % 2) (b / 2 ^ k % 2) < 2 = omega (arith, bit-below (a / 2 ^ k), bit-below (b / 2 ^ k)) in
-    ap (λ x. x % 2) (or-shr a b k ∙ or-step (a / 2 ^ k) (b / 2 ^ k)) ∙ digits-mod _ low)
-    (bits-cases (λ x y. eqb (max x y) 1 ≡ (eqb x 1 || eqb y 1)) refl refl refl refl)
-    refl
-
--- a power of 2 has one bit
-same-place : (k : ℕ) → 2 ^ k / 2 ^ k % 2 ≡ 1
-same-place k = rw (div-self (pow-pos k))
-
-higher-place : (k d : ℕ) → 2 ^ k / 2 ^ (k + suc d) % 2 ≡ 0
-higher-place k d = rw (div-eq-of-lt (pow-lt {i = k} {j = k + suc d} (omega arith)))
-
-lower-place : (k d : ℕ) → 2 ^ (suc d + k) / 2 ^ k % 2 ≡ 0
-lower-place k d = rw (pow-add 2 (suc d) k, shl-shr (2 ^ suc d) k, pow-suc 2 d) (mul-mod-left (2 ^ d) 2)
-
-lone-bit : (k j : ℕ) → eqb (2 ^ k / 2 ^ j % 2) 1 ≡ eqb j k
-lone-bit k j =
-    by-cases (decLt j k)
-    (λ lower.
-    let there : k ≡ suc (k - suc j) + j = omega arith in
-    ap (λ n. eqb (2 ^ n / 2 ^ j % 2) 1) there ∙ rw (lower-place j (k - suc j)) (sym (ne-eqb j k (omega arith))))
-    (λ same-or-higher.
-    by-cases (decLt k j)
-    (λ higher.
-    let there : j ≡ k + suc (j - suc k) = omega arith in
-    ap (λ n. eqb (2 ^ k / 2 ^ n % 2) 1) there ∙ rw (higher-place k (j - suc k)) (sym (ne-eqb j k (omega arith))))
-    (λ same-or-lower.
-    let same : j ≡ k = omega arith in
-    rw (same, same-place k) (sym (eq-eqb k k refl))))
+or-marks a b i = marks-holds (bitOr a b) i ∙ or-holds 32 a b i ∙ sym (ap₂ _||_ (marks-holds a i) (marks-holds b i))
 
 -- the mask that marks one task
-own-bit : (r : ℕ) → r < 32 → 2147483648 / 2 ^ r ≡ 2 ^ (31 - r)
-own-bit r known =
-    let parts : 31 ≡ 31 - r + r = omega arith in
-    ap (λ n. 2 ^ n / 2 ^ r) parts ∙ rw (pow-add 2 (31 - r) r) (shl-shr (2 ^ (31 - r)) r)
-
 pub own-marks : (r i : ℕ) → r < 32 → marks (2147483648 / 2 ^ r) i ≡ eqb i r
-unfolding marks
 own-marks r i known =
-    by-cases (decLt i 32)
-    (λ below.
-    rw (lt-ltb i 32 below, own-bit r known, lone-bit (31 - r) (31 - i))
-    (same-test _ _
-    (λ same. eq-eqb i r (omega (arith, eqb-true (31 - i) (31 - r) same)))
-    (λ same. eq-eqb (31 - i) (31 - r) (omega (arith, eqb-true i r same)))))
-    (λ past. rw (le-ltb i 32 (omega arith), ne-eqb i r (omega arith)))
+    ap (λ mask. marks mask i) (shifted-alone 32 r known) ∙ marks-holds (2 ^ (32 - suc r)) i ∙ alone-holds 32 r i known
 
 -- a mask with one more task
 pub one-more-marks : (mask r i : ℕ) → r < 32 → marks (bitOr mask (2147483648 / 2 ^ r)) i ≡ (marks mask i || eqb i r)

@@ -8,6 +8,9 @@ use table::marked;
 pub fn next_reader(readers: u32, from: u32) -> u32
     ensures { λ r. ⌜ r ≡ nextReader readers from ⌝ }
 {
+    if readers == 0 {
+        return 32;
+    }
     let mut r = from;
     while r < 32 {
         if marked(readers, r as u64) {

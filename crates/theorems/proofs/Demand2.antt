@@ -30,6 +30,8 @@ use Rattle.questions.specs.Answers.{saidOfPoints, saidOfListing, saidOfAges}
 use Rattle.questions.specs.declared.AgesAnswer.{AgesAnswer}
 use Rattle.questions.specs.declared.ListingAnswer.{ListingAnswer}
 use Rattle.questions.specs.declared.PointsAnswer.{PointsAnswer}
+use Rattle.questions.proofs.listing.Met as asked-listing-met
+use Rattle.questions.proofs.listing.Statement as asked-listing
 use Rattle.questions.proofs.points.Met as asked-points-met
 use Rattle.questions.proofs.points.Statement as asked-points
 use Rattle.questions.proofs.Determined.{points-determined, listing-determined, ages-determined}
@@ -102,6 +104,13 @@ served-exactly = servesAt-exactly
 -- (crates/questions, src/lib.rt):  saidOfPoints r ≡ points image writer reader n
 pub points-answered : {M : Type 1} → asked-points.statement M
 points-answered = asked-points-met.met
+
+-- The listing of a core, asked of any bytes, any number and any buffer, is answered as document 01's definition `listing`
+-- says, and the buffer holds at exit what `lentAfter` says (crates/questions, src/lib.rt):
+--     saidOfListing r ≡ bytesListed (listing image core (length buffer))
+--     buffer at exit ≡ lentAfter (listing image core (length buffer)) buffer
+pub listing-answered : {M : Type 1} → asked-listing.statement M
+listing-answered = asked-listing-met.met
 
 -- The bytes of a core's listing are that listing: taken out of the bytes again field by field, with nothing left over
 -- but zero bits, it is what was listed. So every number fits its field.

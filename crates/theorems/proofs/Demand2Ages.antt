@@ -3,15 +3,17 @@
 use Prim.Native.Nat.{ℕ, _+_, _*_, _≤_, _<_}
 use mathlib.Core.Path.{_≡_}
 use mathlib.Core.List.{List}
+use lib.ListN.{length, getD}
 use Rattle.outcomes.specs.Outcome.{gives}
 use Rattle.table.specs.Image.{Whole, readImage}
 use Rattle.table.specs.Table.{chainOf}
 use Rattle.table.proofs.MeetsRules.{accepted-meets-rules}
-use Rattle.ages.specs.Ages.{Chain, endOf, lengthOf, ageOf, roundOf, agesOf, chainTimings}
+use Rattle.ages.specs.Ages.{Chain, endOf, lengthOf, ageOf, roundOf, basicPaths, agesOf, chainTimings}
 use Rattle.ages.specs.Paths.{Counted, Path}
 use Rattle.ages.proofs.Rising.{Timed, end-rises, end-at-least}
 use Rattle.ages.proofs.Repeats.{end-repeats}
 use Rattle.ages.proofs.Counted as counted
+use Rattle.ages.proofs.Once.{starts-rise}
 use Rattle.ages.proofs.Reached as reached
 use Rattle.ages.proofs.OfTable.{chain-timed}
 
@@ -46,6 +48,11 @@ module _ (image : List ℕ) (whole : Whole) (accepted : readImage image ≡ give
 
   pub counted-in-every-round : (t n : ℕ) → Counted chain t → Path chain (t + n * roundOf chain)
   counted-in-every-round = counted.counted-comes-again chain timed
+
+  -- None is counted twice: the starts that are counted rise.
+  pub no-path-counted-twice : (i j : ℕ) → i < j → j < length (basicPaths chain)
+      → getD (basicPaths chain) i 0 < getD (basicPaths chain) j 0
+  no-path-counted-twice = starts-rise chain timed
 
   -- There is at least one. So "longest length, worst age, best age" are each that of a path that is counted, and no
   -- basic path of any round is longer, has a larger age or a smaller one.

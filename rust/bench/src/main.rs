@@ -46,7 +46,7 @@ fn compare_reading(what: &str, image: &[u8]) {
 }
 
 /// All cores of a table, each into a buffer that has room for the longest listing and no more.
-fn compare_listing(what: &str, table: &Description, by_proof: proved::Listing) -> Times {
+fn compare_listing(what: &str, table: &Description) -> Times {
     let image = table.image();
     let cores = table.cores;
     let lengths = (0..cores).map(|core| independent::listing_length(&image, core));
@@ -55,7 +55,7 @@ fn compare_listing(what: &str, table: &Description, by_proof: proved::Listing) -
     let mut buffers = [vec![0xff; room], vec![0xff; room]];
     for core in 0..=cores {
         let [one, other] = &mut buffers;
-        assert_eq!(by_proof(&image, core, one), listing(&image, core, other));
+        assert_eq!(proved::listing(&image, core, one), listing(&image, core, other));
         assert!(one == other, "{what}: the listings of core {core} differ");
     }
     let [one, other] = &mut buffers;
@@ -64,17 +64,17 @@ fn compare_listing(what: &str, table: &Description, by_proof: proved::Listing) -
             _ = black_box(list(black_box(&image), core, buffer));
         }
     };
-    let times = times(|| ask(by_proof, one), || ask(listing, other));
+    let times = times(|| ask(proved::listing, one), || ask(listing, other));
     print(&format!("{what}, {} bytes listed", lengths.iter().sum::<u64>()), times);
     times
 }
 
 /// All chains of a table.
-fn compare_ages(what: &str, table: &Description, by_proof: proved::AgesOf, plain: proved::AgesOf) {
+fn compare_ages(what: &str, table: &Description, plain: proved::AgesOf) {
     let image = table.image();
     let chains = table.chains.len() as u64;
     for chain in 0..=chains {
-        assert_eq!(by_proof(&image, chain), plain(&image, chain));
+        assert_eq!(proved::ages(&image, chain), plain(&image, chain));
     }
     let ask = |ages: proved::AgesOf| {
         let image = &image;
@@ -84,7 +84,7 @@ fn compare_ages(what: &str, table: &Description, by_proof: proved::AgesOf, plain
             }
         }
     };
-    print(&format!("{what}, ages"), times(ask(by_proof), ask(plain)));
+    print(&format!("{what}, ages"), times(ask(proved::ages), ask(plain)));
 }
 
 fn main() {
@@ -95,24 +95,21 @@ fn main() {
     assert_eq!((largest.len(), proved::read(&largest)), (480, Ok(())));
     compare_reading("a largest table", &largest);
 
-    if let Some(by_proof) = proved::LISTING {
-        compare_listing(example, &tables::example(), by_proof);
-        compare_listing("a control unit", &tables::control_unit(), by_proof);
-        compare_listing("a sparse round", &tables::sparse(), by_proof);
-        compare_listing("a dense round", &tables::dense(10_000), by_proof);
-        compare_listing("fast tasks wanted rarely", &tables::ring(), by_proof);
-        let [short, long] = [10_000, 1_000_000].map(|round| {
-            compare_listing(&format!("two frames in {round}"), &tables::two_frames(round), by_proof)
-        });
-        let (proved, plain) = (long.proved / short.proved, long.plain / short.plain);
-        println!("H a hundred times larger: proved {proved:.2} times, plain Rust {plain:.2} times");
-    }
-    if let Some(by_proof) = proved::AGES {
-        compare_ages(example, &tables::example(), by_proof, ages);
-        compare_ages("chain 3, 7, 3", &tables::of_three(), by_proof, ages);
-        compare_ages("a chain of 55,440 paths", &tables::most_paths(), by_proof, ages);
-        let (rare, what) = (tables::rare_paths(), "999 paths among 999,999 starts");
-        compare_ages(what, &rare, by_proof, ages);
-        compare_ages(&format!("{what}, each tried"), &rare, by_proof, ages_by_every_start);
-    }
+    compare_listing(example, &tables::example());
+    compare_listing("a control unit", &tables::control_unit());
+    compare_listing("a sparse round", &tables::sparse());
+    compare_listing("a dense round", &tables::dense(10_000));
+    compare_listing("fast tasks wanted rarely", &tables::ring());
+    let [short, long] = [10_000, 1_000_000].map(|round| {
+        compare_listing(&format!("two frames in {round}"), &tables::two_frames(round))
+    });
+    let (proved, plain) = (long.proved / short.proved, long.plain / short.plain);
+    println!("H a hundred times larger: proved {proved:.2} times, plain Rust {plain:.2} times");
+
+    compare_ages(example, &tables::example(), ages);
+    compare_ages("chain 3, 7, 3", &tables::of_three(), ages);
+    compare_ages("a chain of 55,440 paths", &tables::most_paths(), ages);
+    let (rare, what) = (tables::rare_paths(), "999 paths among 999,999 starts");
+    compare_ages(what, &rare, ages);
+    compare_ages(&format!("{what}, each tried"), &rare, ages_by_every_start);
 }

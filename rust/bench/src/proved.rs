@@ -1,5 +1,4 @@
-//! The proved code's answers in the plain programs' form. What the archive has no function for yet
-//! is none.
+//! The proved code's answers in the plain programs' form.
 
 use plain::ages::Ages;
 use plain::reading::Refusal;
@@ -13,7 +12,15 @@ pub fn read(image: &[u8]) -> Result<(), Refusal> {
 }
 
 pub type Listing = fn(&[u8], u64, &mut [u8]) -> Result<u64, Refusal>;
-pub const LISTING: Option<Listing> = None;
+
+pub fn listing(image: &[u8], core: u64, buffer: &mut [u8]) -> Result<u64, Refusal> {
+    liskobran::listing(image, core, buffer).map(|listing| listing.len() as u64).map_err(refused)
+}
 
 pub type AgesOf = fn(&[u8], u64) -> Result<Ages, Refusal>;
-pub const AGES: Option<AgesOf> = None;
+
+pub fn ages(image: &[u8], chain: u64) -> Result<Ages, Refusal> {
+    let liskobran::Ages { paths, longest, worst, best, jitter } =
+        liskobran::ages(image, chain).map_err(refused)?;
+    Ok(Ages { paths, longest, worst, best, jitter })
+}

@@ -1,5 +1,8 @@
 //! Programs that are the proved code but for one fault each.
 
+use crate::faulty_ages::faulty_ages;
+use crate::faulty_frames::faulty_frames;
+use crate::faulty_listings::faulty_listings;
 use crate::question::Question;
 use crate::said::{by_proved_code, Said};
 use crate::tally::Tally;
@@ -13,7 +16,7 @@ pub struct Program {
     pub tally: Tally,
 }
 
-fn program(fault: &str, says: impl Fn(&[u8], Question, &Said) -> Said + 'static) -> Program {
+pub fn program(fault: &str, says: impl Fn(&[u8], Question, &Said) -> Said + 'static) -> Program {
     Program { fault: fault.to_string(), says: Box::new(says), tally: Tally::default() }
 }
 
@@ -110,5 +113,8 @@ pub fn faulty() -> Vec<Program> {
         programs.push(number(one, "the next place", move |place| (one, place + 1)));
         programs.push(number(one, "accepted", |_| (0, 0)));
     }
+    programs.extend(faulty_listings());
+    programs.extend(faulty_frames());
+    programs.extend(faulty_ages());
     programs
 }

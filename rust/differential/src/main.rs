@@ -1,7 +1,8 @@
 //! The differential test: `differential [COUNT [SEED]]` asks about at least COUNT images. Ends with
 //! status 0 where the proved code and the independent program say the same of each, every kind of
-//! image, every number and every length of a valid image occurred, and every faulty program was
-//! found out; with status 2, and nothing asked, where the arguments are not numbers.
+//! image, every number and every length of a valid image occurred, enough cores were listed, and
+//! every faulty program was found out; with status 2, and nothing asked, where the arguments are not
+//! numbers.
 
 #![forbid(unsafe_code)]
 
@@ -9,7 +10,7 @@ use std::process::ExitCode;
 use std::time::Instant;
 
 use differential::compare::compare;
-use differential::tally::report;
+use differential::report::report;
 
 const COUNT: u64 = 300_000;
 const SEED: u64 = 1;

@@ -11,15 +11,31 @@ pub enum Question {
     Read,
     /// The points of a pair of tasks.
     Points { writer: u64, reader: u64, n: u64 },
+    /// The copy listing of a core, into a lent buffer of so many bytes.
+    Listing { core: u64, room: usize },
+    /// The ages of a chain.
+    Ages { chain: u64 },
 }
 
 impl Question {
-    pub const WORDS: [&'static str; 2] = ["read", "points"];
+    pub const WORDS: [&'static str; 4] = ["read", "points", "listing", "ages"];
+    /// The numbers that each question can give beyond those of an image alone.
+    pub const NUMBERS: [&'static [usize]; 4] = [&[], &[12, 13], &[11, 12], &[12]];
 
     pub fn number(self) -> usize {
         match self {
             Question::Read => 0,
             Question::Points { .. } => 1,
+            Question::Listing { .. } => 2,
+            Question::Ages { .. } => 3,
+        }
+    }
+
+    /// The buffer that is lent, of no bytes where none is. No byte of it is like one beside it.
+    pub fn lent(self) -> Vec<u8> {
+        match self {
+            Question::Listing { room, .. } => (0..room).map(|byte| !(157 * byte) as u8).collect(),
+            _ => Vec::new(),
         }
     }
 }

@@ -1,5 +1,5 @@
-//! A run: every change and every pair of every example, a table of every size, then random rounds
-//! until enough images were asked about.
+//! A run: the largest listings and chains, every change and every pair of every example, a table of
+//! every size, then random rounds until enough images were asked about.
 
 use std::cell::Cell;
 
@@ -7,6 +7,7 @@ use independent::random::Random;
 
 use crate::damage::every_change;
 use crate::examples::{every_size, examples, shorter_chains};
+use crate::examples::{longest_chains, longest_listing, widest_listings};
 use crate::kind::{Kind, Visit};
 use crate::question::{every_pair, Question};
 use crate::rounds::round;
@@ -19,10 +20,13 @@ pub fn run(seed: u64, least: u64, visit: &mut Visit) {
         visit(kind, image, question);
     };
     let mut random = Random::new(seed);
+    widest_listings(&mut counted);
     for example in examples(&mut random) {
         every_change(&example, &mut counted);
         every_pair(&example, &mut counted);
     }
+    longest_listing(&mut counted);
+    longest_chains(&mut counted);
     every_size(&mut random, &mut counted);
     shorter_chains(&mut random, &mut counted);
     while visited.get() < least {

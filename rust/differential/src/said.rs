@@ -1,7 +1,6 @@
-//! What is said to a question: document 01's number and place, and the values of the answer. Where
-//! the question is answered the number and the place are 0; where it is refused there is no value.
-
-use independent::{points_in, read, Refusal, Table};
+//! What is said to a question: document 01's number and place, the values of the answer, and what the
+//! lent buffer then holds. Where the question is answered the number and the place are 0; where it is
+//! refused there is no value.
 
 use crate::question::Question;
 
@@ -10,53 +9,59 @@ pub struct Said {
     pub number: u32,
     pub place: u64,
     pub values: Vec<u64>,
+    /// The whole buffer; no bytes where none was lent.
+    pub lent: Vec<u8>,
 }
 
 impl Said {
-    pub fn answered(values: &[u64]) -> Said {
-        Said { number: 0, place: 0, values: values.to_vec() }
+    fn new(values: Result<Vec<u64>, (u32, u64)>, lent: Vec<u8>) -> Said {
+        match values {
+            Ok(values) => Said { number: 0, place: 0, values, lent },
+            Err((number, place)) => Said { number, place, values: Vec::new(), lent },
+        }
     }
 
-    pub fn refused(number: u32, place: u64) -> Said {
-        Said { number, place, values: Vec::new() }
+    pub fn answered(values: &[u64]) -> Said {
+        Said::new(Ok(values.to_vec()), Vec::new())
+    }
+
+    /// The question is refused, with the buffer left as it was.
+    pub fn refused(question: Question, number: u32, place: u64) -> Said {
+        Said::new(Err((number, place)), question.lent())
+    }
+
+    /// The listing is put into the first bytes of the buffer, if that has room.
+    pub fn listed(question: Question, listing: &[u8]) -> Said {
+        let mut lent = question.lent();
+        match lent.get_mut(..listing.len()) {
+            Some(first) => first.copy_from_slice(listing),
+            None => return Said::refused(question, 11, 0),
+        }
+        Said::new(Ok(vec![listing.len() as u64]), lent)
+    }
+
+    /// The bytes listed, where a listing is answered.
+    pub fn listing(&self, question: Question) -> Option<&[u8]> {
+        match (question, &self.values[..]) {
+            (Question::Listing { .. }, &[bytes]) => self.lent.get(..bytes as usize),
+            _ => None,
+        }
     }
 }
 
 /// By the proved code.
 pub fn by_proved_code(image: &[u8], question: Question) -> Said {
-    let said = match question {
-        Question::Read => liskobran::read(image).map(|()| Said::answered(&[])),
+    let mut lent = question.lent();
+    let values = match question {
+        Question::Read => liskobran::read(image).map(|()| Vec::new()),
         Question::Points { writer, reader, n } => liskobran::points(image, writer, reader, n)
-            .map(|points| Said::answered(&[points.publishing, points.reading])),
-    };
-    said.unwrap_or_else(|refusal| Said::refused(refusal.number, refusal.place))
-}
-
-/// The independent program. It reads an image once for all questions that follow one another.
-pub struct Independent {
-    image: Vec<u8>,
-    read: Result<Table, Refusal>,
-}
-
-impl Independent {
-    /// Begins with the empty image.
-    pub fn new() -> Independent {
-        Independent { image: Vec::new(), read: read(&[]) }
-    }
-
-    pub fn says(&mut self, image: &[u8], question: Question) -> Said {
-        if self.image != image {
-            self.image = image.to_vec();
-            self.read = read(image);
+            .map(|points| vec![points.publishing, points.reading]),
+        Question::Listing { core, .. } => {
+            liskobran::listing(image, core, &mut lent).map(|listing| vec![listing.len() as u64])
         }
-        let said = match &self.read {
-            Err(refusal) => Err(*refusal),
-            Ok(table) => match question {
-                Question::Read => Ok(Said::answered(&[])),
-                Question::Points { writer, reader, n } => points_in(table, writer, reader, n)
-                    .map(|(publishing, reading)| Said::answered(&[publishing, reading])),
-            },
-        };
-        said.unwrap_or_else(|refusal| Said::refused(refusal.number, refusal.place))
-    }
+        Question::Ages { chain } => liskobran::ages(image, chain).map(|ages| {
+            [ages.paths, ages.longest, ages.worst, ages.best, ages.jitter].map(u64::from).to_vec()
+        }),
+    };
+    Said::new(values.map_err(|refusal| (refusal.number, refusal.place)), lent)
 }

@@ -2,7 +2,6 @@
 //! question, and every difference.
 
 use std::collections::BTreeSet;
-use std::fmt::Write;
 
 use crate::kind::Kind;
 use crate::question::Question;
@@ -21,11 +20,13 @@ pub struct Difference {
 #[derive(Debug, Clone, Default)]
 pub struct Tally {
     /// How many images of each kind were asked whether they are accepted.
-    kinds: [u64; Kind::ALL.len()],
+    pub kinds: [u64; Kind::ALL.len()],
     /// How often each number was expected, by question; 0 is answered.
-    numbers: [[u64; 14]; Question::WORDS.len()],
+    pub numbers: [[u64; 14]; Question::WORDS.len()],
     /// The lengths of the accepted images.
-    lengths: BTreeSet<usize>,
+    pub lengths: BTreeSet<usize>,
+    /// How many cores were listed into a buffer with no room to spare.
+    pub cores: u64,
     pub differing: u64,
     /// The first few.
     pub differences: Vec<Difference>,
@@ -42,9 +43,11 @@ fn possible_lengths() -> BTreeSet<usize> {
     (7..=480).filter(|length| ![8, 10, 13].contains(length)).collect()
 }
 
-/// The largest number that an image alone can give, and those that points can give beyond.
+/// The largest number that an image alone can give.
 const OF_IMAGES: usize = 10;
-const OF_POINTS: [usize; 2] = [12, 13];
+
+/// So many cores are listed at least, or one for every three images where there are fewer.
+const CORES: u64 = 100_000;
 
 impl Tally {
     pub fn images(&self) -> u64 {
@@ -67,6 +70,8 @@ impl Tally {
                 self.lengths.insert(image.len());
             }
         }
+        let listing = expected.listing(question);
+        self.cores += u64::from(listing.is_some_and(|bytes| bytes.len() == expected.lent.len()));
         if asked != expected {
             self.differing += 1;
             if self.differences.len() < SHOWN {
@@ -84,11 +89,16 @@ impl Tally {
                 missing.push(kind.words().to_string());
             }
         }
-        let [read, points] = &self.numbers;
-        let of_read = (0..=OF_IMAGES).filter(|&number| read[number] == 0);
-        missing.extend(of_read.map(|number| format!("read: number {number}")));
-        let of_points = (0..=OF_IMAGES).chain(OF_POINTS).filter(|&number| points[number] == 0);
-        missing.extend(of_points.map(|number| format!("points: number {number}")));
+        for (question, said) in self.numbers.iter().enumerate() {
+            let possible = (0..=OF_IMAGES).chain(Question::NUMBERS[question].iter().copied());
+            for number in possible.filter(|&number| said[number] == 0) {
+                missing.push(format!("{}: number {number}", Question::WORDS[question]));
+            }
+        }
+        let cores = CORES.min(self.images() / 3);
+        if self.cores < cores {
+            missing.push(format!("{cores} cores listed"));
+        }
         let of_length = &possible_lengths() - &self.lengths;
         if !of_length.is_empty() {
             missing.push(accepted_with(&of_length));
@@ -116,32 +126,4 @@ impl Tally {
 fn accepted_with(lengths: &BTreeSet<usize>) -> String {
     let bytes: Vec<String> = lengths.iter().map(usize::to_string).collect();
     format!("accepted images of {} bytes", bytes.join(", "))
-}
-
-/// The lines that the program prints.
-pub fn report(tally: &Tally) -> Result<String, std::fmt::Error> {
-    let mut text = String::new();
-    for kind in Kind::ALL {
-        writeln!(text, "{:>10} {}", tally.kinds[kind as usize], kind.words())?;
-    }
-    writeln!(text, "{:>10} {:>10}", Question::WORDS[0], Question::WORDS[1])?;
-    for (number, (read, points)) in tally.numbers[0].iter().zip(&tally.numbers[1]).enumerate() {
-        let words = if number == 0 { "answered".into() } else { format!("refused {number}") };
-        writeln!(text, "{read:>10} {points:>10} {words}")?;
-    }
-    writeln!(text, "{:>10} different lengths of accepted images", tally.lengths.len())?;
-    for what in tally.missing() {
-        writeln!(text, "did not occur: {what}")?;
-    }
-    for what in tally.impossible() {
-        writeln!(text, "occurred and cannot: {what}")?;
-    }
-    for Difference { kind, image, question, asked, expected } in &tally.differences {
-        let hex: Vec<String> = image.iter().map(|byte| format!("{byte:02x}")).collect();
-        writeln!(text, "{}, {} bytes: {}", kind.words(), image.len(), hex.join(" "))?;
-        writeln!(text, "    asked {question:?}: said {asked:?}, expected {expected:?}")?;
-    }
-    writeln!(text, "{:>10} images in all", tally.images())?;
-    writeln!(text, "{:>10} differences", tally.differing)?;
-    Ok(text)
 }

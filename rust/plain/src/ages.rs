@@ -1,6 +1,7 @@
-//! The ages of a chain: document 01, "Age of a chain". By one way from basic path to basic path, by
-//! another through every start.
+//! The ages of a chain: document 01, "Age of a chain". By one way along the releases of the chain's
+//! slowest task, by another through every start.
 
+use crate::along::{Along, Task, TOGETHER};
 use crate::parts::hyperperiod;
 use crate::reading::{read, Refusal, NOTHING};
 
@@ -13,17 +14,38 @@ pub struct Ages {
     pub jitter: u32,
 }
 
-impl Ages {
-    const NONE: Ages = Ages { paths: 0, longest: 0, worst: 0, best: u32::MAX, jitter: 0 };
+/// A start with its end, and the paths before it.
+struct Paths {
+    first_period: u32,
+    start: u32,
+    end: u32,
+    ages: Ages,
+}
 
-    /// Takes a basic path with its start, its end and the end of the next one.
+impl Paths {
+    fn new(first_period: u32, start: u32, end: u32) -> Paths {
+        let ages = Ages { paths: 0, longest: 0, worst: 0, best: u32::MAX, jitter: 0 };
+        Paths { first_period, start, end, ages }
+    }
+
+    /// Goes on to a later start, or to the same one, with the end that belongs to it if it is later.
+    /// The start before it is that of a basic path where it ends earlier.
     #[inline(always)]
-    fn take(&mut self, first_period: u32, start: u32, end: u32, next_end: u32) {
-        let age = first_period + next_end - start;
-        self.paths += 1;
-        self.longest = self.longest.max(end - start);
-        self.worst = self.worst.max(age);
-        self.best = self.best.min(age);
+    fn take(&mut self, start: u32, end: u32) {
+        let later = start != self.start;
+        let basic = later && end != self.end;
+        let age = self.first_period + end - self.start;
+        let ages = &mut self.ages;
+        ages.paths += u32::from(basic);
+        ages.longest = ages.longest.max(if basic { self.end - self.start } else { 0 });
+        ages.worst = ages.worst.max(if basic { age } else { 0 });
+        ages.best = ages.best.min(if basic { age } else { u32::MAX });
+        self.end = if later { end } else { self.end };
+        self.start = start;
+    }
+
+    fn ages(self) -> Ages {
+        Ages { jitter: self.ages.worst - self.ages.best, ..self.ages }
     }
 }
 
@@ -43,58 +65,37 @@ fn read_chain(image: &[u8], chain: u64) -> Result<Chain, Refusal> {
     Ok((periods, tasks, round))
 }
 
-/// A period with 2^63 by it, rounded up: what a division by it takes.
-#[derive(Clone, Copy)]
-struct Task {
-    period: u32,
-    inverse: u64,
-}
-
-impl Task {
-    fn new(period: u32) -> Task {
-        Task { period, inverse: (1 << 63) / u64::from(period) + 1 }
-    }
-
-    /// The last release at or before a tick. Exact for ticks below 2^32, as periods are below 2^31.
-    #[inline(always)]
-    fn last_to(self, tick: u32) -> u32 {
-        let product = u128::from(self.inverse) * u128::from(2 * u64::from(tick));
-        (product >> 64) as u32 * self.period
-    }
-
-    /// The first release at or after a tick.
-    #[inline(always)]
-    fn first_from(self, tick: u32) -> u32 {
-        self.last_to(tick + self.period - 1)
-    }
-}
-
-/// From basic path to basic path: the end of a start, the last start with that end, the next start.
+/// Every path goes through a release of the slowest task. The first is the one that takes the start
+/// 0; a round later everything is as it was.
 pub fn ages(image: &[u8], chain: u64) -> Result<Ages, Refusal> {
     let (periods, tasks, round) = read_chain(image, chain)?;
-    let mut all = [Task { period: 0, inverse: 0 }; 8];
-    for (task, &period) in all.iter_mut().zip(&periods[..tasks]) {
-        *task = Task::new(period);
+    let mut all = [Task::NONE; 8];
+    let mut slowest = 0;
+    for (number, &period) in periods[..tasks].iter().enumerate() {
+        let middle = 0 < number && number < tasks - 1;
+        all[number] = Task::new(period, if middle { period } else { 0 });
+        slowest = if period > periods[slowest] { number } else { slowest };
     }
-    let (first, middle, last) = (all[0], &all[1..tasks - 1], all[tasks - 1]);
-    let end_of = |start: u32| {
-        let taken = |tick, task: &Task| task.first_from(tick) + task.period;
-        last.first_from(middle.iter().fold(start, taken))
-    };
-    let last_start = |end: u32| {
-        let begun = |tick, task: &Task| task.last_to(tick) - task.period;
-        first.last_to(middle.iter().rfold(end, begun))
-    };
-    let mut ages = Ages::NONE;
-    let mut end = end_of(0);
-    let mut start = last_start(end);
-    while start < round {
-        let next_end = end_of(start + first.period);
-        ages.take(first.period, start, end, next_end);
-        end = next_end;
-        start = last_start(end);
+    let (before, rest) = all[..tasks].split_at(slowest);
+    let along = Along { before, slowest: rest[0], after: &rest[1..] };
+    let begun = |tick, task: &Task| task.first_from(tick) + task.waits;
+    let mut release = rest[0].first_from(before.iter().skip(1).fold(0, begun));
+    let ([start], [end]) = along.from(release);
+    let mut paths = Paths::new(periods[0], start, end);
+    let period = periods[slowest];
+    let mut left = round / period;
+    while left >= TOGETHER {
+        let (starts, ends) = along.from::<{ TOGETHER as usize }>(release + period);
+        starts.into_iter().zip(ends).for_each(|(start, end)| paths.take(start, end));
+        release += TOGETHER * period;
+        left -= TOGETHER;
     }
-    Ok(Ages { jitter: ages.worst - ages.best, ..ages })
+    for _ in 0..left {
+        release += period;
+        let ([start], [end]) = along.from(release);
+        paths.take(start, end);
+    }
+    Ok(paths.ages())
 }
 
 /// Through every start, each task's releases walked beside.
@@ -112,14 +113,9 @@ pub fn ages_by_every_start(image: &[u8], chain: u64) -> Result<Ages, Refusal> {
         }
         tick - last
     };
-    let mut ages = Ages::NONE;
-    let mut end = end_of(0);
-    for start in (0..round).step_by(first as usize) {
-        let next_end = end_of(start + first);
-        if end < next_end {
-            ages.take(first, start, end, next_end);
-        }
-        end = next_end;
+    let mut paths = Paths::new(first, 0, end_of(0));
+    for start in (first..=round).step_by(first as usize) {
+        paths.take(start, end_of(start));
     }
-    Ok(Ages { jitter: ages.worst - ages.best, ..ages })
+    Ok(paths.ages())
 }

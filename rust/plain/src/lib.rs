@@ -5,6 +5,7 @@
 #![forbid(unsafe_code)]
 
 pub mod ages;
+pub mod along;
 pub mod listing;
 pub mod pairs;
 pub mod parts;

@@ -92,6 +92,20 @@ fn damaged_images() {
     }
 }
 
+/// Chains of any periods, with some long rounds among them.
+#[test]
+fn random_chains() {
+    let mut random = Random::new(10);
+    for number in 0..6_000 {
+        let round =
+            random.choose(if number % 100 == 0 { &[510_510, 720_720] } else { &[60, 5_040] });
+        let divisors: Vec<u64> = (1..=round).filter(|period| round % period == 0).collect();
+        let tasks = random.between(2, 8);
+        let periods: Vec<u64> = (0..tasks).map(|_| random.choose(&divisors)).collect();
+        check_ages(&Description::of_chain(&periods).image());
+    }
+}
+
 #[test]
 fn long_rounds() {
     let mut random = Random::new(9);

@@ -1,8 +1,9 @@
-//! Document 01, "Numbers to test against", of images and of points, through the wrapper.
+//! Document 01, "Numbers to test against", of images, points, listings and ages, through the
+//! wrapper.
 
 #![forbid(unsafe_code)]
 
-use liskobran::{points, read, Points, Refusal};
+use liskobran::{ages, listing, points, read, Ages, Points, Refusal};
 
 const EXAMPLE: [u8; 16] = [
     0x12, 0x08, 0x08, 0x40, 0x00, 0x01, 0x10, 0x00, 0x05, 0x02, 0x00, 0x00, 0x00, 0x01, 0x00, 0x20,
@@ -77,4 +78,67 @@ fn the_points_of_a_pair() {
     assert_eq!(points(&EXAMPLE, 2, 1, 1), refused(12, 0));
     assert_eq!(points(&EXAMPLE, 0, 1, 1_000_001), refused(12, 0));
     assert_eq!(points(&EXAMPLE[..15], 0, 1, 1), refused(1, 118));
+}
+
+/// The listings of the example's cores: W0 at 0 and 4; R0:1 at 0 and 5.
+const LISTINGS: [[u8; 17]; 2] = [
+    [0x00, 0x00, 0x14, 0x00, 0x00, 0x40, 0, 0, 0, 0x20, 0x00, 0, 0, 0x80, 0x02, 0x00, 0x00],
+    [0x20, 0x00, 0x14, 0x00, 0x00, 0x40, 0, 0, 0, 0x30, 0x02, 0, 0, 0xa0, 0x03, 0x00, 0x20],
+];
+
+#[test]
+fn the_listings_of_the_example() {
+    for (core, expected) in (0..).zip(LISTINGS) {
+        assert_eq!(listing(&EXAMPLE, core, &mut [0xff; 17]), Ok(&expected[..]));
+        let mut lent = [0xff; 20];
+        assert_eq!(listing(&EXAMPLE, core, &mut lent), Ok(&expected[..]));
+        assert_eq!(lent[17..], [0xff; 3]);
+    }
+}
+
+/// Each refusal leaves the buffer as it was.
+#[test]
+fn listings_refused() {
+    let mut lent = [0xff; 20];
+    for (core, room, number) in [(0, 16, 11), (1, 0, 11), (2, 20, 12), (1 << 32, 0, 12)] {
+        assert_eq!(listing(&EXAMPLE, core, &mut lent[..room]), refused(number, 0));
+    }
+    assert_eq!(listing(&EXAMPLE[..15], 0, &mut lent), refused(1, 118));
+    assert_eq!(listing(&[], 0, &mut []), refused(1, 0));
+    assert_eq!(lent, [0xff; 20]);
+}
+
+/// A table in which core 1 has no frame.
+#[test]
+fn a_core_without_frames() {
+    let image = packed(format!("00010010{:06b}{:07b}00000000{:020b}", 1, 0, 10));
+    assert_eq!(listing(&image, 1, &mut [0xff; 6]), Ok(&[0x20, 0x00, 0x14, 0, 0, 0][..]));
+    assert_eq!(listing(&image, 1, &mut [0xff; 5]), refused(11, 0));
+}
+
+/// One chain of tasks with the periods given, and a label for each of its steps.
+fn of_chain(periods: &[u32]) -> Vec<u8> {
+    let count = periods.len();
+    let mut bits = format!("00010001{count:06b}{:07b}00001", count - 1);
+    bits.extend(periods.iter().map(|period| format!("000{period:020b}")));
+    bits.extend((1..count).map(|task| format!("{:05b}{:032b}", task - 1, 1u32 << (31 - task))));
+    bits += &format!("{count:04b}");
+    bits.extend((0..count).map(|task| format!("{task:05b}")));
+    packed(bits)
+}
+
+#[test]
+fn the_ages_of_a_chain() {
+    for (image, [paths, longest, worst, best, jitter]) in [
+        (EXAMPLE.to_vec(), [2, 1, 8, 7, 1]),
+        (of_chain(&[3, 7, 3]), [3, 9, 21, 18, 3]),
+        (of_chain(&[5, 10, 20]), [1, 10, 35, 35, 0]),
+        (of_chain(&[5, 2]), [2, 1, 11, 10, 1]),
+    ] {
+        assert_eq!(ages(&image, 0), Ok(Ages { paths, longest, worst, best, jitter }));
+        assert_eq!(ages(&image, 1), refused(12, 0));
+        assert_eq!(ages(&image, 1 << 32), refused(12, 0));
+    }
+    assert_eq!(ages(&EXAMPLE[..15], 0), refused(1, 118));
+    assert_eq!(ages(&[], 0), refused(1, 0));
 }

@@ -1,40 +1,49 @@
 -- `instants::puts::write_reads` meets its contract. The loop's invariant: the reads of the labels passed were put.
 -- Assumes nothing.
-use Prim.Native.Nat.{_-_, _≤_}
+use Prim.Native.Nat.{ℕ, _^_, _<_}
 use mathlib.Core.Path.{_≡_, refl, _∙_}
+use mathlib.Core.List.{List}
 use native.Mathlib.Omega.{arith}
-use lib.ListN.{length}
-use Rattle.instants.specs.Due.{writerDue, allReadsDue}
+use lib.ListN.{length, getD}
+use Rattle.copies.specs.Copies.{Copy}
+use Rattle.instants.specs.Due.{writerDue, readsDue, readsIn}
 use Rattle.instants.specs.Puts.{PutsCopies}
-use Rattle.instants.proofs.LabelsPut.{no-reads, more-reads}
+use Rattle.instants.proofs.LabelsPut.{PutBefore, put-nothing, put-label, put-all}
+use Rattle.instants.proofs.Putting.{no-copy, copies-then}
 use Rattle.instants.proofs.puts.write_reads.Statement.{statement}
 use Rattle.instants.proofs.puts.write_reads.Tie as tie
 
+-- the reads of one label
+abbrev of-one : (writer readers serves : List ℕ) → ℕ → List Copy
+of-one writer readers serves l = readsDue (getD readers l 0) (getD serves (writerDue writer l) 0) l
+
 abbrev Inv-loop : tie.InvT-loop
-Inv-loop bytes₀ labels writer readers serves last₀ l₀ bytes last l =
-    (l ≤ labels)
-    × (length bytes ≡ length bytes₀)
-    × PutsCopies bytes₀ bytes last₀ last (allReadsDue writer readers serves l)
+Inv-loop bytes₀ writer readers serves read last₀ rest₀ bytes last rest =
+    (length bytes ≡ length bytes₀)
+    × (rest < 2 ^ 64)
+    × PutBefore (of-one writer readers serves) (PutsCopies bytes₀ bytes last₀ last) read rest
 
 abbrev μ-loop : tie.MeasureT-loop
-μ-loop bytes₀ labels writer readers serves last₀ l₀ bytes last l = labels - l
+μ-loop bytes₀ writer readers serves read last₀ rest₀ bytes last rest = rest
 
 loop-holds : tie.Need-loop-holds Inv-loop μ-loop
-loop-holds c = (omega arith, refl, no-reads _ _ _ _ _)
+loop-holds c = (refl, c .before .fits .read .fits, put-nothing _ _ (no-copy _ _ refl))
 
 loop-again : tie.Need-loop-again Inv-loop μ-loop
 unfolding writerDue
 loop-again c =
-    let turn = c .before .before .before .before .before .before .before .before in (
-      omega arith,
-      c .before .bytes .given ∙ turn .loop .inv .1,
-      more-reads _ _ _ (turn .loop .l) (turn .loop .inv .2) (c .before .before .reads-of .ensures),
+    let put = c .before .before .before in
+    let label = put .before .before .before .before .before in
+    let turn = label .before .before .loop in (
+      c .before .before .bytes .given ∙ turn .inv .0,
+      omega (arith, c .without .ensures .1, turn .inv .1),
+      put-label _ (omega arith) (turn .inv .1) (turn .inv .2) (label .first-label .ensures .0)
+          (c .without .ensures .0) (λ done before. copies-then done _ before (put .reads-of .ensures)),
     )
 
 returns : tie.Need-returns Inv-loop μ-loop
-returns c =
-    let all : c .before .before .before .args .labels ≡ c .before .loop .l = omega arith in
-    rw all (c .before .loop .inv .2)
+unfolding readsIn
+returns c = put-all _ (omega arith) (c .before .loop .inv .2)
 
 pub write-reads-spec : {M : Type 1} → statement M
 write-reads-spec =
@@ -43,17 +52,19 @@ write-reads-spec =
     Inv-loop
     μ-loop
     loop-holds
+    (λ c κs. omega arith)  -- first-label-requires
+    (λ c. omega arith)  -- cast-w
     (λ c. omega arith)  -- mul-w
     (λ c. omega arith)  -- element-copy-out-w
-    (λ c. omega arith)  -- cast-w
+    (λ c. omega arith)  -- cast-w-2
     (λ c. omega arith)  -- cast-reads-of
     (λ c. omega arith)  -- mul-reads-of
     (λ c. omega arith)  -- element-copy-out-reads-of
     (λ c. omega arith)  -- mul-reads-of-2
     (λ c. omega arith)  -- element-copy-out-reads-of-2
     (λ c κs. omega arith)  -- reads-of-requires
-    (λ c. omega arith)  -- add-l
-    (λ c. omega arith)  -- loop-less
+    (λ c κs. (omega arith, c .before .before .before .before .before .before .before .first-label .ensures .0))  -- without-requires
+    (λ c. c .without .ensures .1)  -- loop-less
     loop-again
-    (λ c. c .before .loop .inv .1)  -- same-length
+    (λ c. c .before .loop .inv .0)  -- same-length
     returns)

@@ -1,40 +1,50 @@
 -- `instants::puts::write_writes` meets its contract. The loop's invariant: the writes of the labels passed were put.
 -- Assumes nothing.
-use Prim.Native.Nat.{_-_, _≤_}
+use Prim.Native.Nat.{ℕ, _^_, _<_}
 use mathlib.Core.Path.{_≡_, refl, _∙_}
+use mathlib.Core.List.{List, [], _∷_}
 use native.Mathlib.Omega.{arith}
 use lib.ListN.{length}
-use Rattle.instants.specs.Due.{writerDue, writesDue}
+use Rattle.masks.specs.Masks.{eachHeld}
+use Rattle.copies.specs.Copies.{Copy, write}
+use Rattle.instants.specs.Due.{writerDue, writesIn}
 use Rattle.instants.specs.Puts.{PutsCopies}
-use Rattle.instants.proofs.LabelsPut.{no-writes, more-writes}
+use Rattle.instants.proofs.LabelsPut.{PutBefore, put-nothing, put-label, put-all}
+use Rattle.instants.proofs.Putting.{no-copy, one-write, copies-then}
 use Rattle.instants.proofs.puts.write_writes.Statement.{statement}
 use Rattle.instants.proofs.puts.write_writes.Tie as tie
 
+-- the write of one label
+abbrev one : List ℕ → ℕ → List Copy
+one writer l = write l (writerDue writer l) ∷ []
+
 abbrev Inv-loop : tie.InvT-loop
-Inv-loop bytes₀ labels writer readers publishes last₀ l₀ bytes last l =
-    (l ≤ labels)
-    × (length bytes ≡ length bytes₀)
-    × PutsCopies bytes₀ bytes last₀ last (writesDue writer readers publishes l)
+Inv-loop bytes₀ writer written last₀ rest₀ bytes last rest =
+    (length bytes ≡ length bytes₀)
+    × (rest < 2 ^ 64)
+    × PutBefore (one writer) (PutsCopies bytes₀ bytes last₀ last) written rest
 
 abbrev μ-loop : tie.MeasureT-loop
-μ-loop bytes₀ labels writer readers publishes last₀ l₀ bytes last l = labels - l
+μ-loop bytes₀ writer written last₀ rest₀ bytes last rest = rest
 
 loop-holds : tie.Need-loop-holds Inv-loop μ-loop
-loop-holds c = (omega arith, refl, no-writes _ _ _ _ _)
+loop-holds c = (refl, c .before .fits .written .fits, put-nothing _ _ (no-copy _ _ refl))
 
 loop-again : tie.Need-loop-again Inv-loop μ-loop
 unfolding writerDue
 loop-again c =
-    let turn = c .before .before .before .before .before .before .before .before in (
-      omega arith,
-      c .before .bytes .given ∙ turn .loop .inv .1,
-      more-writes _ _ _ (turn .loop .l) (turn .loop .inv .2) (c .before .before .write-of .ensures),
+    let put = c .before .before .before in
+    let label = put .before .before .before .first-label .ensures in
+    let turn = put .before .before .before .before .before .loop in (
+      c .before .before .bytes .given ∙ turn .inv .0,
+      omega (arith, c .without .ensures .1, turn .inv .1),
+      put-label _ (omega arith) (turn .inv .1) (turn .inv .2) (label .0) (c .without .ensures .0)
+          (λ done before. copies-then done _ before (one-write _ _ refl (put .put-copy .ensures))),
     )
 
 returns : tie.Need-returns Inv-loop μ-loop
-returns c =
-    let all : c .before .before .before .args .labels ≡ c .before .loop .l = omega arith in
-    rw all (c .before .loop .inv .2)
+unfolding writesIn
+returns c = put-all _ (omega arith) (c .before .loop .inv .2)
 
 pub write-writes-spec : {M : Type 1} → statement M
 write-writes-spec =
@@ -43,17 +53,13 @@ write-writes-spec =
     Inv-loop
     μ-loop
     loop-holds
-    (λ c. omega arith)  -- mul-w
-    (λ c. omega arith)  -- element-copy-out-w
-    (λ c. omega arith)  -- cast-write-of
-    (λ c. omega arith)  -- mul-write-of
-    (λ c. omega arith)  -- element-copy-out-write-of
-    (λ c. omega arith)  -- cast-write-of-2
-    (λ c. omega arith)  -- mul-write-of-2
-    (λ c. omega arith)  -- element-copy-out-write-of-2
-    (λ c κs. omega arith)  -- write-of-requires
-    (λ c. omega arith)  -- add-l
-    (λ c. omega arith)  -- loop-less
+    (λ c κs. omega arith)  -- first-label-requires
+    (λ c. omega arith)  -- cast-put-copy
+    (λ c. omega arith)  -- mul-put-copy
+    (λ c. omega arith)  -- element-copy-out-put-copy
+    (λ c κs. omega arith)  -- put-copy-requires
+    (λ c κs. (omega arith, c .before .before .before .before .before .first-label .ensures .0))  -- without-requires
+    (λ c. c .without .ensures .1)  -- loop-less
     loop-again
-    (λ c. c .before .loop .inv .1)  -- same-length
+    (λ c. c .before .loop .inv .0)  -- same-length
     returns)

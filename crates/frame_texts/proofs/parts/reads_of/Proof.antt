@@ -1,0 +1,53 @@
+-- `frame_texts::parts::reads_of` meets its contract. The loop's invariant: the reads of the readers met were put, and
+-- the next one is reached. Assumes nothing.
+use Prim.Native.Nat.{_-_}
+use native.Mathlib.Omega.{arith}
+use borrow.Author.Needs.{needs}
+use Rattle.instants.proofs.ReadersPut.{none-read}
+use Rattle.readers.proofs.Walk.{next-nearer}
+use Rattle.texts.proofs.Putting.{puts-length}
+use Rattle.frame_texts.proofs.CopiesPut.{no-copy}
+use Rattle.frame_texts.proofs.ReadersPut.{Reached, reached-first, reached-next, reached-all}
+use Rattle.frame_texts.proofs.parts.reads_of.Statement.{statement}
+use Rattle.frame_texts.proofs.parts.reads_of.Tie as tie
+
+abbrev Inv-loop : tie.InvT-loop
+Inv-loop bytes₀ at label readers serves served next₀ r₀ bytes next r = Reached served label bytes₀ bytes at next r
+
+abbrev μ-loop : tie.MeasureT-loop
+μ-loop bytes₀ at label readers serves served next₀ r₀ bytes next r = 32 - r
+
+loop-holds : tie.Need-loop-holds Inv-loop μ-loop
+loop-holds c = reached-first _ _ _ _ (c .next-reader .ensures)
+
+returns : tie.Need-returns Inv-loop μ-loop
+returns c = no-copy _ _ (none-read _ _ _ (c .if1 .taken))
+
+loop-less : tie.Need-loop-less Inv-loop μ-loop
+loop-less c = next-nearer _ (c .before .before .before .before .before .loop-test .taken) (c .next-reader2 .ensures)
+
+loop-again : tie.Need-loop-again Inv-loop μ-loop
+loop-again c =
+    let put = c .before .before .before in
+    reached-next _ _ (put .before .before .before .loop .inv) (omega arith) (put .put-read .ensures)
+    (c .next-reader2 .ensures)
+
+returns-2 : tie.Need-returns-2 Inv-loop μ-loop
+returns-2 c = reached-all _ _ _ (c .before .loop .inv) (omega arith)
+
+pub reads-of-spec : {M : Type 1} → statement M
+reads-of-spec =
+    tie.close
+    (tie.spec
+    Inv-loop
+    μ-loop
+    returns
+    (λ c κs. search needs)  -- next-reader-requires
+    loop-holds
+    (λ c κs. search needs)  -- put-read-requires
+    (λ c. omega arith)  -- add-next-reader
+    (λ c κs. search needs)  -- next-reader-requires-2
+    loop-less
+    loop-again
+    (λ c. puts-length (c .before .loop .inv .put))  -- same-length
+    returns-2)

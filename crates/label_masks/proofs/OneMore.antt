@@ -1,0 +1,157 @@
+-- One label more, and one task more. No contract cites this file. Assumes nothing.
+use Prim.Native.Nat.{ℕ, suc, _+_, _-_, _/_, _^_, _<_, _≤_, min}
+use mathlib.Core.Path.{_≡_, sym, ap, ap₂, _∙_}
+use mathlib.Core.Logic.{by-cases}
+use mathlib.Core.Bool.{Bool, true, false, _&&_, _||_, or-false, or-true, and-false}
+use mathlib.Core.List.{List}
+use native.Mathlib.Decide.{ℕ-discrete, decLt}
+use native.Mathlib.Nat.{mod-lt, zero-div}
+use native.Mathlib.Omega.{arith}
+use borrow.Author.Tests.{eq-eqb, ne-eqb, lt-ltb, le-ltb}
+use lib.Bits.{bitOr, or-lt}
+use lib.Dec.{eqb, ltb, lit<}
+use lib.ListN.{length, getD, set, replicate, getD-replicate}
+use lib.Pow.{pow-lt}
+use lib.Seq.{getD-set-same, getD-set-other}
+use Rattle.masks.specs.Masks.{holds}
+use Rattle.masks.proofs.Bitwise.{shifted-alone, one-more-holds}
+use Rattle.table.specs.Table.{marks}
+use Rattle.instants.specs.Due.{writerDue}
+use Rattle.label_masks.specs.LabelMasks.{WrittenLabels, Holds, ReadLabels}
+
+-- a mask with label l
+with-label : (mask l k : ℕ) → l < 64
+    → holds 64 (bitOr mask (9223372036854775808 / 2 ^ l)) k ≡ (holds 64 mask k || eqb k l)
+with-label mask l k known =
+    ap (λ bit. holds 64 (bitOr mask bit) k) (shifted-alone 64 l known) ∙ one-more-holds 64 mask l k known
+
+one-bit : (l : ℕ) → l < 64 → 9223372036854775808 / 2 ^ l < 2 ^ 64
+one-bit l known = rw (shifted-alone 64 l known) (pow-lt {i = 64 - suc l} {j = 64} (omega arith))
+
+-- a test of the numbers below n, with n itself or without it
+below-same : (n k : ℕ) (test : Bool) → ¬ (k ≡ n) → (ltb k n && test) ≡ (ltb k (n + 1) && test)
+below-same n k test other =
+    by-cases (decLt k n)
+    (λ less. rw (lt-ltb k n less, lt-ltb k (n + 1) (omega arith)))
+    (λ more. rw (le-ltb k n (omega arith), le-ltb k (n + 1) (omega arith)))
+
+below-with : (n k : ℕ) (test : Bool) → (k ≡ n → test ≡ true) → ((ltb k n && test) || eqb k n) ≡ (ltb k (n + 1) && test)
+below-with n k test there =
+    by-cases (ℕ-discrete k n)
+    (λ same. rw (eq-eqb k n same, lt-ltb k (n + 1) (omega arith), there same) (or-true (ltb k n && true)))
+    (λ other. rw (ne-eqb k n other) (or-false _ ∙ below-same n k test other))
+
+below-without : (n k : ℕ) (test : Bool) → (k ≡ n → test ≡ false) → (ltb k n && test) ≡ (ltb k (n + 1) && test)
+below-without n k test there =
+    by-cases (ℕ-discrete k n)
+    (λ same. rw (there same, and-false (ltb k n), and-false (ltb k (n + 1))))
+    (below-same n k test)
+
+-- there is none below 0
+none-below : (k : ℕ) (test : Bool) → false ≡ (ltb k 0 && test)
+none-below k test = rw (le-ltb k 0 (omega arith))
+
+-- nothing is held by 0
+empty-holds : (l : ℕ) → holds 64 0 l ≡ false
+unfolding holds
+empty-holds l = rw (zero-div (2 ^ (64 - suc l))) (and-false (ltb l 64))
+
+no-masks : (w : ℕ) → w < 32 → (l : ℕ) → holds 64 (getD (replicate 32 0) w 0) l ≡ false
+no-masks w known l = ap (λ mask. holds 64 mask l) (getD-replicate {A = ℕ} 32 w 0 0 known) ∙ empty-holds l
+
+-- as many labels as there are places for
+same-labels : (labels l : ℕ) → l < 64 → ltb l (min labels 64) ≡ ltb l labels
+same-labels labels l known =
+    by-cases (decLt l labels)
+    (λ less. rw (lt-ltb l labels less, lt-ltb l (min labels 64) (omega arith)))
+    (λ more. rw (le-ltb l labels (omega arith), le-ltb l (min labels 64) (omega arith)))
+
+same-tasks : (tasks r : ℕ) → r < 32 → ltb r (min tasks 32) ≡ ltb r tasks
+same-tasks tasks r known =
+    by-cases (decLt r tasks)
+    (λ less. rw (lt-ltb r tasks less, lt-ltb r (min tasks 32) (omega arith)))
+    (λ more. rw (le-ltb r tasks (omega arith), le-ltb r (min tasks 32) (omega arith)))
+
+-- the labels that tasks write
+module _ (writer : List ℕ) where
+  writer-below : (l : ℕ) → writerDue writer l < 32
+  unfolding writerDue
+  writer-below l = mod-lt (getD writer l 0) (lit< tt)
+
+  pub none-written : WrittenLabels 0 writer (replicate 32 0)
+  none-written = record {
+    few = λ w known. rw (getD-replicate {A = ℕ} 32 w 0 0 known) (omega arith);
+    has = λ w l known few. no-masks w known l ∙ none-below l _;
+  }
+
+  pub one-more-written : {l : ℕ} {masks : List ℕ} → length masks ≡ 32 → l < 64 → WrittenLabels l writer masks
+      → WrittenLabels (l + 1) writer
+      (set masks (writerDue writer l) (bitOr (getD masks (writerDue writer l) 0) (9223372036854775808 / 2 ^ l)))
+  one-more-written {l} {masks} long few written = record {
+    few = λ w known.
+        by-cases (ℕ-discrete w (writerDue writer l))
+        (λ same. rw (same, getD-set-same masks (writerDue writer l) _ 0 (omega (arith, writer-below l)))
+        (or-lt 64 (getD masks (writerDue writer l) 0) (9223372036854775808 / 2 ^ l)
+        (written .few (writerDue writer l) (writer-below l)) (one-bit l few)))
+        (λ other. rw (getD-set-other masks (writerDue writer l) w _ 0 other) (written .few w known));
+    has = λ w k known below.
+        by-cases (ℕ-discrete w (writerDue writer l))
+        (λ same. rw (same, getD-set-same masks (writerDue writer l) _ 0 (omega (arith, writer-below l)))
+        (with-label (getD masks (writerDue writer l) 0) l k few
+        ∙ rw (written .has (writerDue writer l) k (writer-below l) below)
+        (below-with l k (eqb (writerDue writer k) (writerDue writer l)) (λ here. eq-eqb _ _ (ap (writerDue writer) here)))))
+        (λ other. rw (getD-set-other masks (writerDue writer l) w _ 0 other)
+        (written .has w k known below
+        ∙ below-without l k (eqb (writerDue writer k) w)
+        (λ here. ne-eqb _ _ (λ equal. other (sym equal ∙ ap (writerDue writer) here)))));
+  }
+
+  pub all-written : {labels : ℕ} {masks : List ℕ} → WrittenLabels (min labels 64) writer masks
+      → WrittenLabels labels writer masks
+  all-written {labels} written = record {
+    few = written .few;
+    has = λ w l known few.
+        written .has w l known few ∙ ap (λ b. b && eqb (writerDue writer l) w) (same-labels labels l few);
+  }
+
+-- the labels that tasks read
+module _ (readers : List ℕ) where
+  pub none-held : (r : ℕ) → Holds 0 readers r 0
+  none-held r = record { has = λ l few. empty-holds l ∙ none-below l _ }
+
+  pub one-more-held : {l r mask : ℕ} → l < 64 → marks (getD readers l 0) r ≡ true → Holds l readers r mask
+      → Holds (l + 1) readers r (bitOr mask (9223372036854775808 / 2 ^ l))
+  one-more-held {l} {r} {mask} few marked held = record {
+    has = λ k below.
+        with-label mask l k few
+        ∙ rw (held .has k below) (below-with l k (marks (getD readers k 0) r) (λ here. rw here marked));
+  }
+
+  pub same-held : {l r mask : ℕ} → marks (getD readers l 0) r ≡ false → Holds l readers r mask
+      → Holds (l + 1) readers r mask
+  same-held {l} {r} unmarked held = record {
+    has = λ k below.
+        held .has k below ∙ below-without l k (marks (getD readers k 0) r) (λ here. rw here unmarked);
+  }
+
+  pub none-read : (labels : ℕ) → ReadLabels labels 0 readers (replicate 32 0)
+  none-read labels = record { has = λ r l known few. no-masks r known l ∙ none-below r _ }
+
+  pub one-more-read : {labels r mask : ℕ} {masks : List ℕ} → length masks ≡ 32 → r < 32
+      → Holds labels readers r mask → ReadLabels labels r readers masks
+      → ReadLabels labels (r + 1) readers (set masks r mask)
+  one-more-read {labels} {r} {mask} {masks} long known held read = record {
+    has = λ s l few below.
+        by-cases (ℕ-discrete s r)
+        (λ same. rw (same, getD-set-same masks r mask 0 (omega arith), lt-ltb r (r + 1) (omega arith)) (held .has l below))
+        (λ other. rw (getD-set-other masks r s mask 0 other)
+        (read .has s l few below ∙ below-same r s (ltb l labels && marks (getD readers l 0) s) other));
+  }
+
+  pub all-read : {labels tasks : ℕ} {masks : List ℕ} → ReadLabels (min labels 64) (min tasks 32) readers masks
+      → ReadLabels labels tasks readers masks
+  all-read {labels} {tasks} read = record {
+    has = λ r l known few.
+        read .has r l known few
+        ∙ ap₂ (λ a b. a && (b && marks (getD readers l 0) r)) (same-tasks tasks r known) (same-labels labels l few);
+  }

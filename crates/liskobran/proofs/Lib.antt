@@ -1,2 +1,0 @@
--- Laws and theorems of this crate.
-pub mod Digits

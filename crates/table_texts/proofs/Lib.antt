@@ -1,0 +1,4 @@
+-- Laws of this crate.
+pub mod EachPut
+mod ListingLong
+pub mod Room
