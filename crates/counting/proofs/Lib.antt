@@ -6,6 +6,7 @@ pub mod Least
 pub mod Marks
 pub mod OfTable
 pub mod OnePair
+pub mod PairTests
 pub mod PointKinds
 pub mod ReadsCounted
 pub mod ReadsMany

@@ -2,7 +2,7 @@
 -- nothing.
 use Prim.Native.Nat.{ℕ, _+_, _^_, _<_, _≤_, min}
 use mathlib.Core.Path.{_≡_, refl, sym, ap, ap₂, _∙_}
-use mathlib.Core.Bool.{Bool, true, false, cond, _&&_, and-true, and-false}
+use mathlib.Core.Bool.{Bool, true, false, cond, _&&_, and-false}
 use mathlib.Core.List.{List, [], _∷_, map}
 use native.Mathlib.Nat.{mod-lt, zero-add}
 use mathlib.Core.Logic.{by-cases}
@@ -16,7 +16,7 @@ use Rattle.lists.proofs.Below.{each-below-same, each-below-less}
 use Rattle.lists.proofs.Sums.{length-below-same, below-only}
 use Rattle.masks.specs.Masks.{holds}
 use Rattle.times.specs.Points.{servesAt}
-use Rattle.table.specs.Table.{coreOf, marks, reads, joins, hyperperiodOf}
+use Rattle.table.specs.Table.{coreOf, marks, joins, hyperperiodOf}
 use Rattle.table.specs.declared.Table.{Table}
 use Rattle.table.specs.Image.{Whole}
 use Rattle.table.specs.Rules.{MeetsRules}
@@ -25,33 +25,15 @@ use Rattle.copies.specs.Copies.{Copy, read}
 use Rattle.instants.specs.Due.{inBoth, readsDue, writerDue, allReadsDue}
 use Rattle.label_masks.specs.LabelMasks.{WrittenLabels, ReadLabels}
 use Rattle.gathering.specs.Pairs.{codeOf}
-use Rattle.gathering.specs.Counters.{tickIn, writerIn, readerIn, timingIn, counterFrom}
-use Rattle.gathering.proofs.Codes.{code-writer, code-reader, pair-counter, counter-writer, counter-reader}
+use Rattle.gathering.specs.Counters.{tickIn, timingIn, counterFrom}
 use Rattle.counters.specs.Advanced.{commonLabels, masksDue, countDue}
 use Rattle.counting.specs.Counting.{pointAt, joinedOf, Counting}
 use Rattle.counting.proofs.DueMasks.{due-kind}
 use Rattle.counting.proofs.LabelsDue.{common-holds}
 use Rattle.counting.proofs.OfTable.{onCore, joined-joins}
 use Rattle.counting.proofs.OnePair.{pair-points, tick-is}
+use Rattle.counting.proofs.PairTests.{as-many, arranged, writer-of, reader-of, reader-known}
 use Rattle.counting.proofs.ReadsCounted.{dueLabels, all-counted, pairTest, listedDue, by-labels}
-
--- one thing where a test holds, whichever thing it is
-as-many : {A B : Type 0} (x : A) (y : B) (one other : Bool) → one ≡ other
-    → length (onlyIf one x) ≡ length (onlyIf other y)
-as-many x y one true is = rw is
-as-many x y one false is = rw is
-
--- the order of the tests of a pair
-arranged : (joins core tick point marked : Bool) → (joins ≡ true → tick ≡ point)
-    → (((joins && core) && tick) && marked) ≡ (marked && ((core && joins) && point))
-arranged true true tick point true same = and-true tick ∙ same refl
-arranged true true tick point false same = and-false tick
-arranged true false tick point true same = refl
-arranged true false tick point false same = refl
-arranged false true tick point true same = refl
-arranged false true tick point false same = refl
-arranged false false tick point true same = refl
-arranged false false tick point false same = refl
 
 module _ (whole : Whole) (rules : MeetsRules whole) (sound : Sound (whole .table)) (core t : ℕ)
     (soon : t ≤ hyperperiodOf (whole .table)) {counters : List ℕ}
@@ -81,27 +63,14 @@ module _ (whole : Whole) (rules : MeetsRules whole) (sound : Sound (whole .table
     abbrev listed : (w r : ℕ) → Bool
     listed w r = listedDue true core (table .core) (joinedOf table) from due (commonLabels written read-by) w r
 
-    -- the tasks of a pair
-    writer-of : (w r : ℕ) → w < 32 → r < 32 → writerIn (from (codeOf w r)) ≡ w
-    writer-of w r writes reads =
-        rw (pair-counter w r writes reads, counter-writer) (code-writer w r writes reads)
-
-    reader-of : (w r : ℕ) → w < 32 → r < 32 → readerIn (from (codeOf w r)) ≡ r
-    reader-of w r writes reads =
-        rw (pair-counter w r writes reads, counter-reader) (code-reader w r writes reads)
-
-    reader-known : (l r : ℕ) → l < table .labels → marks (getD (table .readers) l 0) r ≡ true → r < table .tasks
-    unfolding reads
-    reader-known l r known marked = rules .reader l r known marked .0
-
     -- the labels of a pair
     pair-labels : (l w r : ℕ) → l < 64 → w < 32 → r < 32 → holds 64 (commonLabels written read-by (from (codeOf w r))) l
         ≡ (ltb l (table .labels) && (eqb (wl l) w && marks (getD (table .readers) l 0) r))
     pair-labels l w r below writes reads =
         common-holds (table .labels) (table .tasks) (table .writer) (table .readers) written read-by of-writers of-readers
-        reader-known (from (codeOf w r)) l below
+        (reader-known whole rules t) (from (codeOf w r)) l below
         ∙ ap₂ (λ v s. ltb l (table .labels) && (eqb (wl l) v && marks (getD (table .readers) l 0) s))
-        (writer-of w r writes reads) (reader-of w r writes reads)
+        (writer-of whole rules t w r writes reads) (reader-of whole rules t w r writes reads)
 
     -- a label that is none of a writer's
     no-label : (l w : ℕ) → l < 64 → w < 32

@@ -1,2 +1,3 @@
 -- Laws of this crate.
+mod Below
 mod OneMore

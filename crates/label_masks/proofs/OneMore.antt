@@ -18,6 +18,7 @@ use Rattle.masks.proofs.Bitwise.{shifted-alone, one-more-holds}
 use Rattle.table.specs.Table.{marks}
 use Rattle.instants.specs.Due.{writerDue}
 use Rattle.label_masks.specs.LabelMasks.{WrittenLabels, Holds, ReadLabels}
+use Rattle.label_masks.proofs.Below.{below-same, below-with, below-without, none-below, same-labels, same-tasks}
 
 -- a mask with label l
 with-label : (mask l k : ℕ) → l < 64
@@ -28,29 +29,6 @@ with-label mask l k known =
 one-bit : (l : ℕ) → l < 64 → 9223372036854775808 / 2 ^ l < 2 ^ 64
 one-bit l known = rw (shifted-alone 64 l known) (pow-lt {i = 64 - suc l} {j = 64} (omega arith))
 
--- a test of the numbers below n, with n itself or without it
-below-same : (n k : ℕ) (test : Bool) → ¬ (k ≡ n) → (ltb k n && test) ≡ (ltb k (n + 1) && test)
-below-same n k test other =
-    by-cases (decLt k n)
-    (λ less. rw (lt-ltb k n less, lt-ltb k (n + 1) (omega arith)))
-    (λ more. rw (le-ltb k n (omega arith), le-ltb k (n + 1) (omega arith)))
-
-below-with : (n k : ℕ) (test : Bool) → (k ≡ n → test ≡ true) → ((ltb k n && test) || eqb k n) ≡ (ltb k (n + 1) && test)
-below-with n k test there =
-    by-cases (ℕ-discrete k n)
-    (λ same. rw (eq-eqb k n same, lt-ltb k (n + 1) (omega arith), there same) (or-true (ltb k n && true)))
-    (λ other. rw (ne-eqb k n other) (or-false _ ∙ below-same n k test other))
-
-below-without : (n k : ℕ) (test : Bool) → (k ≡ n → test ≡ false) → (ltb k n && test) ≡ (ltb k (n + 1) && test)
-below-without n k test there =
-    by-cases (ℕ-discrete k n)
-    (λ same. rw (there same, and-false (ltb k n), and-false (ltb k (n + 1))))
-    (below-same n k test)
-
--- there is none below 0
-none-below : (k : ℕ) (test : Bool) → false ≡ (ltb k 0 && test)
-none-below k test = rw (le-ltb k 0 (omega arith))
-
 -- nothing is held by 0
 empty-holds : (l : ℕ) → holds 64 0 l ≡ false
 unfolding holds
@@ -58,19 +36,6 @@ empty-holds l = rw (zero-div (2 ^ (64 - suc l))) (and-false (ltb l 64))
 
 no-masks : (w : ℕ) → w < 32 → (l : ℕ) → holds 64 (getD (replicate 32 0) w 0) l ≡ false
 no-masks w known l = ap (λ mask. holds 64 mask l) (getD-replicate {A = ℕ} 32 w 0 0 known) ∙ empty-holds l
-
--- as many labels as there are places for
-same-labels : (labels l : ℕ) → l < 64 → ltb l (min labels 64) ≡ ltb l labels
-same-labels labels l known =
-    by-cases (decLt l labels)
-    (λ less. rw (lt-ltb l labels less, lt-ltb l (min labels 64) (omega arith)))
-    (λ more. rw (le-ltb l labels (omega arith), le-ltb l (min labels 64) (omega arith)))
-
-same-tasks : (tasks r : ℕ) → r < 32 → ltb r (min tasks 32) ≡ ltb r tasks
-same-tasks tasks r known =
-    by-cases (decLt r tasks)
-    (λ less. rw (lt-ltb r tasks less, lt-ltb r (min tasks 32) (omega arith)))
-    (λ more. rw (le-ltb r tasks (omega arith), le-ltb r (min tasks 32) (omega arith)))
 
 -- the labels that tasks write
 module _ (writer : List ℕ) where

@@ -6,7 +6,7 @@ use native.Mathlib.Omega.{arith}
 use lib.ListN.{getD}
 use Rattle.following.specs.Following.{lastStart, endFrom}
 use Rattle.paths.specs.declared.Walk.{Walk}
-use Rattle.paths.specs.Walks.{withPath, movedTo, Walks, Walking, Taking, Taken}
+use Rattle.paths.specs.Walks.{RightChain, withPath, movedTo, Walks, Walking, Taking, Taken}
 use Rattle.paths.proofs.PathTurns.{same-end, new-path}
 use Rattle.paths.proofs.Turns.{nextInstant, nextStart, nextEnd, period-small, no-start, path-fits}
 
@@ -88,3 +88,17 @@ module _ (periods : List ℕ) {count at round : ℕ} {walk : Walk} {instant star
             (same-walk periods count at round (withPath walk (getD periods 0 0) (nextEnd periods walking)) _ _ _ _ _ _
             is-next is-start refl
             (new-path periods walking other-start (λ same. later (is-end ∙ same)))))
+
+-- after one instant the next, one period later
+pub next-taking : (periods : List ℕ) {count at round : ℕ} {before walk : Walk} {x start end : ℕ}
+    → RightChain periods count round → at < count → Taken periods count at round before x walk
+    → start ≡ lastStart periods at (x + getD periods at 0) → end ≡ endFrom periods at count (x + getD periods at 0)
+    → Taking periods count at round walk (x + getD periods at 0) start end
+next-taking periods {at} right inside taken last ends = record {
+  right = right;
+  inside = inside;
+  walks = taken .walks;
+  next = λ within. ap (λ i. i + getD periods at 0) (sym (taken .on within));
+  last = last;
+  ends = ends;
+}
