@@ -28,6 +28,8 @@ use Rattle.writing.proofs.LargestImage.{largest-image}
 use Rattle.writing.proofs.LargestReached as reached
 use Rattle.questions.specs.Questions.{points, listing, lentAfter, ages}
 use Rattle.questions.proofs.Determined.{same-refusal-whichever-question}
+use Rattle.capi.proofs.chain_ages.liskobran_ages_slice.Met as c-ages-met
+use Rattle.capi.proofs.chain_ages.liskobran_ages_slice.Statement as c-ages
 use Rattle.capi.proofs.cores.liskobran_listing_slice.Met as c-listing-met
 use Rattle.capi.proofs.cores.liskobran_listing_slice.Statement as c-listing
 use Rattle.capi.proofs.pairs.liskobran_points_slice.Met as c-points-met
@@ -87,6 +89,7 @@ same-refusal = same-refusal-whichever-question
 -- The C interface says the same (crates/capi, src): number 0 and the values of an answer, or the refusal's number and
 -- place and 0 for each value.
 --     r ≡ readSaid (answerOf image),  r ≡ pointsSaid (points image writer reader n)
+--     r ≡ agesSaid (ages image chain)
 --     r ≡ listingSaid (bytesListed (listing image core (length buffer))), and the buffer as under demand 2
 pub c-reader-answers : {M : Type 1} → c-read.statement M
 c-reader-answers = c-read-met.met
@@ -96,3 +99,6 @@ c-points-answered = c-points-met.met
 
 pub c-listing-answered : {M : Type 1} → c-listing.statement M
 c-listing-answered = c-listing-met.met
+
+pub c-ages-answered : {M : Type 1} → c-ages.statement M
+c-ages-answered = c-ages-met.met

@@ -16,6 +16,13 @@ use Rattle.ages.proofs.Counted as counted
 use Rattle.ages.proofs.Once.{starts-rise}
 use Rattle.ages.proofs.Reached as reached
 use Rattle.ages.proofs.OfTable.{chain-timed}
+use Rattle.questions.proofs.ages.Met as asked-ages-met
+use Rattle.questions.proofs.ages.Statement as asked-ages
+
+-- The ages of a chain, asked of any bytes and any number, are answered as document 01's definition `ages` says
+-- (crates/questions, src/lib.rt):  saidOfAges r ≡ ages image chain
+pub ages-answered : {M : Type 1} → asked-ages.statement M
+ages-answered = asked-ages-met.met
 
 -- chain k of a table
 abbrev pub chainAt : Whole → ℕ → Chain
