@@ -7,6 +7,7 @@
 pub mod ages;
 pub mod along;
 pub mod frames;
+pub mod lines;
 pub mod listing;
 pub mod pairs;
 pub mod parts;
