@@ -15,6 +15,7 @@ use crate::images::example;
 use crate::process::{Did, Program};
 
 /// A way, what the program did and what it has to do.
+#[derive(Debug, Clone)]
 pub struct Way {
     pub what: String,
     pub did: Did,

@@ -9,6 +9,7 @@ use std::process::ExitCode;
 use std::time::Instant;
 
 use program::compare::{compare, difference};
+use program::faulty::faulty;
 use program::images::images;
 use program::input::{ways_in, ways_out};
 use program::process::Program;
@@ -18,7 +19,8 @@ const SEED: u64 = 1;
 fn run(program: &Program) -> Result<bool> {
     let begun = Instant::now();
     let mut passed = true;
-    for way in ways_in(program)?.into_iter().chain(ways_out(program)?) {
+    let ways = [ways_in(program)?, ways_out(program)?].concat();
+    for way in &ways {
         if way.did != way.expected {
             println!("{}: {}", way.what, difference(&way.did, &way.expected));
             passed = false;
@@ -36,6 +38,9 @@ fn run(program: &Program) -> Result<bool> {
     comparison.differences.iter().for_each(|difference| println!("{difference}"));
     comparison.missing().iter().for_each(|what| println!("did not occur: {what}"));
     comparison.left.iter().for_each(|program| println!("not found out: {}", program.fault));
+    let found_out = faulty().len() - comparison.left.len();
+    println!("{found_out:>10} faulty programs found out");
+    println!("{:>10} ways in which bytes come and go", ways.len());
     println!("{:>10} images in all", comparison.images());
     println!("{:>10} differences", comparison.differing);
     println!("{:.1} seconds", begun.elapsed().as_secs_f64());
