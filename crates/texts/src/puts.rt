@@ -27,15 +27,29 @@ pub fn put_word(bytes: &mut [u8], at: usize, word: &[u8]) -> usize
     next
 }
 
-// A number in decimal.
+// A number in decimal, digit by digit.
+fn put_digits(bytes: &mut [u8], at: usize, number: u64) -> usize
+    ensures { λ r. ⌜ PutsText (now (bytes .entry)) (now (bytes .exit)) at r (decimal number) ⌝ }
+{
+    if number < 10 {
+        return put_byte(bytes, at, 48 + number as u8);
+    }
+    let next = put_digits(bytes, at, number / 10);
+    put_byte(bytes, next, 48 + (number % 10) as u8)
+}
+
+// A number in decimal. Most have one digit or two.
 pub fn put_number(bytes: &mut [u8], at: usize, number: u64) -> usize
     ensures { λ r. ⌜ PutsText (now (bytes .entry)) (now (bytes .exit)) at r (decimal number) ⌝ }
 {
     if number < 10 {
         return put_byte(bytes, at, 48 + number as u8);
     }
-    let next = put_number(bytes, at, number / 10);
-    put_byte(bytes, next, 48 + (number % 10) as u8)
+    if number < 100 {
+        let next = put_byte(bytes, at, 48 + (number / 10) as u8);
+        return put_byte(bytes, next, 48 + (number % 10) as u8);
+    }
+    put_digits(bytes, at, number)
 }
 
 // A word, and a number after one space.
