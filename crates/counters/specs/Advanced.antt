@@ -1,6 +1,6 @@
 -- What is due at an instant, by the counters, and the counters after it. Document 003: "Such code sections are executed
 -- when the corresponding counter reaches zero, where the latter is re-initialized to the next value"; here a counter
--- holds the tick of its next point. Assumes nothing.
+-- holds the tick of its next point. No contract of a question cites this file. Assumes nothing.
 use Prim.Native.Nat.{ℕ, _+_, _/_, _^_, min}
 use mathlib.Core.Bool.{Bool, cond}
 use mathlib.Core.List.{List, [], _∷_, map}

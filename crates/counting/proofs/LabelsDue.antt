@@ -1,28 +1,27 @@
 -- The labels of the counters that are due at a tick are those that are due by their masks. Assumes nothing.
-use Prim.Native.Nat.{ℕ, suc, _-_, _^_, _<_}
+use Prim.Native.Nat.{ℕ, _<_}
 use mathlib.Core.Path.{_≡_, refl, sym, ap, ap₂, _∙_}
 use mathlib.Core.Bool.{Bool, true, false, cond, _&&_, _||_, or-false, or-assoc, and-assoc, and-false}
 use mathlib.Core.List.{List, [], _∷_}
-use native.Mathlib.Nat.{mod-lt, zero-div}
-use native.Mathlib.Omega.{arith}
+use native.Mathlib.Nat.{mod-lt}
 use borrow.Author.Tests.{lt-ltb, ltb-true, eq-eqb, eqb-true}
 use lib.Bits.{bitOr}
 use lib.Dec.{eqb, ltb, lit<}
 use lib.ListN.{getD, replicate, length-replicate}
-use Rattle.lists.specs.Lists.{someBelow, someOf}
-use Rattle.lists.proofs.All.{All, all-each}
+use Rattle.lists.specs.Lists.{someOf}
+use Rattle.lists.proofs.All.{all-each}
 use Rattle.lists.proofs.Bools.{same-test}
 use Rattle.lists.proofs.Lists.{someBelow-same}
 use Rattle.lists.proofs.SomeOf.{some-same, some-and}
 use Rattle.lists.proofs.SomeTold.{some-told}
 use Rattle.masks.specs.Masks.{holds}
-use Rattle.masks.proofs.Bitwise.{and-holds, or-holds}
+use Rattle.masks.proofs.Bitwise.{and-holds, or-holds, zero-holds}
 use Rattle.table.specs.Table.{marks}
-use Rattle.instants.specs.Due.{inBoth, writerDue, isDue, HoldsDue}
+use Rattle.instants.specs.Due.{writerDue, isDue, HoldsDue}
 use Rattle.instants.proofs.NothingDue.{unmarked}
 use Rattle.label_masks.specs.LabelMasks.{WrittenLabels, ReadLabels}
 use Rattle.gathering.specs.Counters.{tickIn, writerIn, readerIn}
-use Rattle.counters.specs.Advanced.{commonLabels, withLabels, withOne, folded, masksDue, labelsDue}
+use Rattle.counters.specs.Advanced.{commonLabels, withLabels, folded, masksDue, labelsDue}
 use Rattle.counting.proofs.Marks.{dueFor, due-marks}
 
 -- the labels of the counters that are due
@@ -48,11 +47,6 @@ module _ (t : ℕ) (written read : List ℕ) (l : ℕ) where
       labels-hold (withLabels t written read labels counter) counters
       ∙ ap (λ b. b || someOf has counters) (with-one labels counter)
       ∙ or-assoc (holds 64 labels l) (has counter) (someOf has counters)
-
--- nothing is held by 0
-zero-holds : (l : ℕ) → holds 64 0 l ≡ false
-unfolding holds
-zero-holds l = rw (zero-div (2 ^ (64 - suc l))) (and-false (ltb l 64))
 
 -- the order of tests, and of what is compared
 turned : (point there writes same marked : Bool) → writes ≡ same
@@ -124,7 +118,7 @@ module _ (labels tasks : ℕ) (writer readers written read : List ℕ) (of-write
       unfolding holds
       holds-due l few =
           labels-hold t written read l 0 counters
-          ∙ ap (λ b. b || someOf (has t written read l) counters) (zero-holds l)
+          ∙ ap (λ b. b || someOf (has t written read l) counters) (zero-holds 64 l)
           ∙ some-same (has t written read l) (λ counter. ltb l labels && one-due l counter) counters
           (all-each counters (λ counter.
           ap (λ b. eqb (tickIn counter) t && b) (common-holds counter l few)

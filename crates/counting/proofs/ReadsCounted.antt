@@ -1,23 +1,22 @@
 -- The labels of the reading counters that are due at a tick, counted pair by pair, are as many as the reads of the instant.
 -- Assumes nothing.
-use Prim.Native.Nat.{ℕ, suc, _+_, _^_, _<_, _≤_, min}
-use mathlib.Core.Path.{_≡_, refl, sym, ap, ap₂, _∙_}
-use mathlib.Core.Bool.{Bool, true, false, cond, _&&_, and-false}
+use Prim.Native.Nat.{ℕ, _+_, _^_, _<_}
+use mathlib.Core.Path.{_≡_, refl, sym, ap, _∙_}
+use mathlib.Core.Bool.{Bool, true, false, cond, _&&_}
 use mathlib.Core.List.{List, [], _∷_, map}
-use native.Mathlib.Nat.{mod-lt, add-zero}
+use native.Mathlib.Nat.{add-zero}
 use native.Mathlib.Omega.{arith}
-use borrow.Author.Tests.{eq-eqb, ne-eqb, lt-ltb, le-ltb}
 use lib.Count.{ones}
-use lib.Dec.{eqb, ltb, lit<}
+use lib.Dec.{eqb}
 use lib.ListN.{length, getD, length-append}
 use Rattle.lists.specs.Lists.{eachBelow, eachOf, onlyIf}
-use Rattle.lists.proofs.Below.{each-below-same, each-below-less}
-use Rattle.lists.proofs.Sums.{length-below-same, length-swap, below-only, each-of-below, each-of-only, each-of-map}
+use Rattle.lists.proofs.Below.{each-below-same}
+use Rattle.lists.proofs.Sums.{length-below-same, length-swap, each-of-below, each-of-only, each-of-map}
 use Rattle.lists.proofs.Sums.{each-of-each, cond-below, cond-only}
 use Rattle.masks.specs.Masks.{holds, eachHeld}
 use Rattle.masks.proofs.Counted.{count-held}
 use Rattle.table.specs.Table.{marks}
-use Rattle.gathering.specs.Pairs.{codeOf, ownTask, pairCounted, tasksIn, pairsWith, pairsOf}
+use Rattle.gathering.specs.Pairs.{codeOf, pairCounted, tasksIn, pairsWith, pairsOf}
 use Rattle.gathering.specs.Counters.{tickIn}
 use Rattle.counters.specs.Advanced.{commonLabels, withCount, folded}
 use Rattle.counting.proofs.OfTable.{onCore}

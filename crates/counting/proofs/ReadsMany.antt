@@ -1,21 +1,20 @@
 -- Of a table's core: as many labels of the reading counters that are due, pair by pair, as reads that are due. Assumes
 -- nothing.
-use Prim.Native.Nat.{ℕ, _+_, _^_, _<_, _≤_, min}
+use Prim.Native.Nat.{ℕ, _^_, _<_, _≤_, min}
 use mathlib.Core.Path.{_≡_, refl, sym, ap, ap₂, _∙_}
 use mathlib.Core.Bool.{Bool, true, false, cond, _&&_, and-false}
-use mathlib.Core.List.{List, [], _∷_, map}
+use mathlib.Core.List.{List, []}
 use native.Mathlib.Nat.{mod-lt, zero-add}
 use mathlib.Core.Logic.{by-cases}
 use native.Mathlib.Decide.{decLt}
 use native.Mathlib.Omega.{arith}
-use borrow.Author.Tests.{eq-eqb, ne-eqb, lt-ltb, le-ltb, ltb-true}
+use borrow.Author.Tests.{eq-eqb, ne-eqb, lt-ltb, le-ltb}
 use lib.Dec.{eqb, ltb, lit<}
 use lib.ListN.{length, getD}
 use Rattle.lists.specs.Lists.{eachBelow, eachOf, onlyIf}
 use Rattle.lists.proofs.Below.{each-below-same, each-below-less}
 use Rattle.lists.proofs.Sums.{length-below-same, below-only}
 use Rattle.masks.specs.Masks.{holds}
-use Rattle.times.specs.Points.{servesAt}
 use Rattle.table.specs.Table.{coreOf, marks, joins, hyperperiodOf}
 use Rattle.table.specs.declared.Table.{Table}
 use Rattle.table.specs.Image.{Whole}

@@ -1,5 +1,5 @@
 -- The counters of a core of a table, at a tick: one for each pair of communicating tasks whose own task is on the core,
--- with its first point at or after the tick. Assumes nothing.
+-- with its first point at or after the tick. No contract of a question cites this file. Assumes nothing.
 use Prim.Native.Nat.{ℕ}
 use mathlib.Core.Bool.{Bool, cond}
 use mathlib.Core.List.{List}

@@ -10,12 +10,12 @@ use lib.Bits.{and-le-l}
 use lib.Count.{ones}
 use lib.Dec.{lit<}
 use lib.ListN.{length, getD, length-append}
-use Rattle.table.specs.Table.{marks, reads, hyperperiodOf}
+use Rattle.table.specs.Table.{reads, hyperperiodOf}
 use Rattle.table.specs.Image.{Whole}
 use Rattle.table.specs.declared.Table.{Table}
 use Rattle.copies.specs.Copies.{copiesAt}
 use Rattle.copies.proofs.Turns.{Turn}
-use Rattle.instants.specs.Due.{copiesDue, writesDue, allReadsDue, writesIn, readsIn, HoldsDue}
+use Rattle.instants.specs.Due.{copiesDue, writesDue, writesIn, readsIn, HoldsDue}
 use Rattle.instants.proofs.ByLabels.{writes-in, reads-in, writes-many}
 use Rattle.instants.proofs.OfTable.{copies-are}
 use Rattle.gathering.specs.Counters.{writerIn, readerIn}

@@ -1,6 +1,6 @@
 -- What is counted of a core's frames, and of which tables it is said. No contract of a question cites this file. Assumes
 -- nothing.
-use Prim.Native.Nat.{ℕ, _+_, _*_}
+use Prim.Native.Nat.{ℕ}
 use mathlib.Core.Path.{_≡_}
 use mathlib.Core.List.{List}
 use lib.ListN.{length}

@@ -1,7 +1,7 @@
 -- A listing that was put and ended: its bits can be counted, and its bytes are those of the listing. No contract cites
 -- this file. Assumes nothing.
 use Prim.Native.Nat.{ℕ, _*_, _≤_}
-use mathlib.Core.Path.{_≡_, ap, sym}
+use mathlib.Core.Path.{_≡_}
 use mathlib.Core.List.{List, [], _∷_}
 use native.Mathlib.Omega.{arith}
 use lib.ListN.{length}

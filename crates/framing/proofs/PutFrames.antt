@@ -12,7 +12,7 @@ use Rattle.packing.specs.Inked.{Inked, Countable}
 use Rattle.packing.specs.declared.Pen.{Pen}
 use Rattle.table.specs.Table.{hyperperiodOf}
 use Rattle.table.specs.declared.Table.{Table}
-use Rattle.copies.specs.Copies.{Copy, Frame, copiesAt, framesOf}
+use Rattle.copies.specs.Copies.{Frame, copiesAt, framesOf}
 use Rattle.copies.specs.Listing.{copyFields, frameFields}
 use Rattle.copies.proofs.Turns.{passedBefore, Turn, none-passed, all-passed, passed-none, passed-frame, no-copies}
 use Rattle.copies.proofs.Turns.{some-copies}

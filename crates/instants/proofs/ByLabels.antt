@@ -1,5 +1,5 @@
 -- The copies that are due, by masks of the labels that are due. No contract cites this file. Assumes nothing.
-use Prim.Native.Nat.{ℕ, _<_, _≤_, _^_, min}
+use Prim.Native.Nat.{ℕ, _<_, _^_, min}
 use mathlib.Core.Path.{_≡_, refl, sym, ap, _∙_}
 use mathlib.Core.Bool.{Bool, true, false, cond, _&&_}
 use mathlib.Core.List.{List, [], _∷_}
@@ -12,7 +12,7 @@ use Rattle.lists.specs.Lists.{someBelow, eachBelow, onlyIf}
 use Rattle.lists.proofs.Bools.{false-unless-true, not-both}
 use Rattle.lists.proofs.Lists.{someBelow-found}
 use Rattle.lists.proofs.Below.{each-below-same, each-below-less}
-use Rattle.masks.specs.Masks.{holds, eachHeld}
+use Rattle.masks.specs.Masks.{eachHeld}
 use Rattle.masks.proofs.Counted.{count-held}
 use Rattle.copies.specs.Copies.{read, write}
 use Rattle.instants.specs.Due.{inBoth, writeDue, readsDue, writerDue, writesDue, allReadsDue, writesIn, readsIn}

@@ -1,20 +1,20 @@
 -- One label more, and one task more. No contract cites this file. Assumes nothing.
-use Prim.Native.Nat.{ℕ, suc, _+_, _-_, _/_, _^_, _<_, _≤_, min}
+use Prim.Native.Nat.{ℕ, suc, _+_, _-_, _/_, _^_, _<_, min}
 use mathlib.Core.Path.{_≡_, sym, ap, ap₂, _∙_}
 use mathlib.Core.Logic.{by-cases}
-use mathlib.Core.Bool.{Bool, true, false, _&&_, _||_, or-false, or-true, and-false}
+use mathlib.Core.Bool.{true, false, _&&_, _||_}
 use mathlib.Core.List.{List}
-use native.Mathlib.Decide.{ℕ-discrete, decLt}
-use native.Mathlib.Nat.{mod-lt, zero-div}
+use native.Mathlib.Decide.{ℕ-discrete}
+use native.Mathlib.Nat.{mod-lt}
 use native.Mathlib.Omega.{arith}
-use borrow.Author.Tests.{eq-eqb, ne-eqb, lt-ltb, le-ltb}
+use borrow.Author.Tests.{eq-eqb, ne-eqb, lt-ltb}
 use lib.Bits.{bitOr, or-lt}
 use lib.Dec.{eqb, ltb, lit<}
 use lib.ListN.{length, getD, set, replicate, getD-replicate}
 use lib.Pow.{pow-lt}
 use lib.Seq.{getD-set-same, getD-set-other}
 use Rattle.masks.specs.Masks.{holds}
-use Rattle.masks.proofs.Bitwise.{shifted-alone, one-more-holds}
+use Rattle.masks.proofs.Bitwise.{zero-holds, shifted-alone, one-more-holds}
 use Rattle.table.specs.Table.{marks}
 use Rattle.instants.specs.Due.{writerDue}
 use Rattle.label_masks.specs.LabelMasks.{WrittenLabels, Holds, ReadLabels}
@@ -29,13 +29,9 @@ with-label mask l k known =
 one-bit : (l : ℕ) → l < 64 → 9223372036854775808 / 2 ^ l < 2 ^ 64
 one-bit l known = rw (shifted-alone 64 l known) (pow-lt {i = 64 - suc l} {j = 64} (omega arith))
 
--- nothing is held by 0
-empty-holds : (l : ℕ) → holds 64 0 l ≡ false
-unfolding holds
-empty-holds l = rw (zero-div (2 ^ (64 - suc l))) (and-false (ltb l 64))
-
+-- masks that hold nothing
 no-masks : (w : ℕ) → w < 32 → (l : ℕ) → holds 64 (getD (replicate 32 0) w 0) l ≡ false
-no-masks w known l = ap (λ mask. holds 64 mask l) (getD-replicate {A = ℕ} 32 w 0 0 known) ∙ empty-holds l
+no-masks w known l = ap (λ mask. holds 64 mask l) (getD-replicate {A = ℕ} 32 w 0 0 known) ∙ zero-holds 64 l
 
 -- the labels that tasks write
 module _ (writer : List ℕ) where
@@ -82,7 +78,7 @@ module _ (writer : List ℕ) where
 -- the labels that tasks read
 module _ (readers : List ℕ) where
   pub none-held : (r : ℕ) → Holds 0 readers r 0
-  none-held r = record { has = λ l few. empty-holds l ∙ none-below l _ }
+  none-held r = record { has = λ l few. zero-holds 64 l ∙ none-below l _ }
 
   pub one-more-held : {l r mask : ℕ} → l < 64 → marks (getD readers l 0) r ≡ true → Holds l readers r mask
       → Holds (l + 1) readers r (bitOr mask (9223372036854775808 / 2 ^ l))

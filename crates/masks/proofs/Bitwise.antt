@@ -2,9 +2,9 @@
 use Prim.Native.Nat.{ℕ, zero, suc, _+_, _-_, _/_, _%_, _^_, _<_, min, max}
 use mathlib.Core.Path.{_≡_, refl, sym, ap, _∙_}
 use mathlib.Core.Logic.{by-cases}
-use mathlib.Core.Bool.{Bool, true, false, _&&_, _||_}
+use mathlib.Core.Bool.{Bool, true, false, _&&_, _||_, and-false}
 use native.Mathlib.Decide.{decLt}
-use native.Mathlib.Nat.{mod-lt, div-eq-of-lt, div-self, pow-suc, mul-mod-left}
+use native.Mathlib.Nat.{mod-lt, zero-div, div-eq-of-lt, div-self, pow-suc, mul-mod-left}
 use native.Mathlib.Omega.{arith}
 use borrow.Author.Tests.{eq-eqb, ne-eqb, lt-ltb, le-ltb, eqb-true}
 use lib.Dec.{eqb, ltb, lit<}
@@ -61,6 +61,11 @@ or-holds =
     ap (λ x. x % 2) (or-shr a b k ∙ or-step (a / 2 ^ k) (b / 2 ^ k)) ∙ digits-mod _ low)
     (bits-cases (λ x y. eqb (max x y) 1 ≡ (eqb x 1 || eqb y 1)) refl refl refl refl)
     refl
+
+-- 0 holds nothing
+pub zero-holds : (width i : ℕ) → holds width 0 i ≡ false
+unfolding holds
+zero-holds width i = rw (zero-div (2 ^ (width - suc i))) (and-false (ltb i width))
 
 -- a power of 2 has one bit
 same-place : (k : ℕ) → 2 ^ k / 2 ^ k % 2 ≡ 1

@@ -2,7 +2,7 @@
 -- Assumes nothing.
 use Prim.Native.Nat.{ℕ, zero, suc, _+_, _-_, _/_, _%_, _^_, _<_}
 use mathlib.Core.Path.{_≡_, refl, sym, ap, ap₂, _∙_}
-use mathlib.Core.Bool.{Bool, not, cond, _||_}
+use mathlib.Core.Bool.{not, _||_}
 use mathlib.Core.List.{[], _∷_}
 use native.Mathlib.Nat.{mod-lt, add-comm, div-one}
 use native.Mathlib.Omega.{arith}

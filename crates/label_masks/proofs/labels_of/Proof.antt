@@ -3,7 +3,6 @@ use Prim.Native.Nat.{_-_, _≤_}
 use mathlib.Core.Path.{_≡_, sym, _∙_}
 use mathlib.Core.Logic.{⊎-elim}
 use native.Mathlib.Omega.{arith}
-use borrow.Author.Needs.{needs}
 use Rattle.label_masks.specs.LabelMasks.{Holds}
 use Rattle.label_masks.proofs.OneMore.{none-held, one-more-held, same-held}
 use Rattle.label_masks.proofs.labels_of.Statement.{statement}

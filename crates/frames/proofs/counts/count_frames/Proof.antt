@@ -1,10 +1,9 @@
 -- `frames::counts::count_frames` meets its contract. The loop's invariant: no more frames than ticks were passed and,
 -- of a right table with these arrays, so many frames and copies were passed, and the counters are ready. Assumes nothing.
 use Prim.Native.Nat.{ℕ, _+_, _-_, _*_, _≤_}
-use mathlib.Core.Path.{_≡_, refl, sym, ap, _∙_}
+use mathlib.Core.Path.{_≡_, refl, ap, _∙_}
 use mathlib.Core.Logic.{⊎-elim}
 use native.Mathlib.Omega.{arith}
-use borrow.Author.Needs.{needs}
 use lib.ListN.{length}
 use Rattle.table.specs.declared.Table.{Table}
 use Rattle.copies.specs.Copies.{copiesAt}

@@ -1,7 +1,7 @@
 -- `framing::written::write_frames` meets its contract. The loop's invariant: of a right table with these arrays, the
 -- frames before the instant were put, and the counters are ready. Assumes nothing.
-use Prim.Native.Nat.{ℕ, _+_, _-_, _<_, _^_}
-use mathlib.Core.Path.{_≡_, refl, sym, ap, _∙_}
+use Prim.Native.Nat.{ℕ, _-_}
+use mathlib.Core.Path.{_≡_, refl, ap, _∙_}
 use mathlib.Core.Logic.{⊎-elim}
 use native.Mathlib.Omega.{arith}
 use borrow.Author.Needs.{needs}

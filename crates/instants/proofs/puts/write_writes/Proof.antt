@@ -5,7 +5,6 @@ use mathlib.Core.Path.{_≡_, refl, _∙_}
 use mathlib.Core.List.{List, [], _∷_}
 use native.Mathlib.Omega.{arith}
 use lib.ListN.{length}
-use Rattle.masks.specs.Masks.{eachHeld}
 use Rattle.copies.specs.Copies.{Copy, write}
 use Rattle.instants.specs.Due.{writerDue, writesIn}
 use Rattle.instants.specs.Puts.{PutsCopies}
