@@ -6,6 +6,7 @@
 
 pub mod ages;
 pub mod along;
+pub mod buffered;
 pub mod frames;
 pub mod lines;
 pub mod listing;

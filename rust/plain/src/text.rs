@@ -12,6 +12,24 @@ use crate::reading::{read, Refusal, Table, NOTHING};
 /// The longest listing of a core that is printed, in bytes.
 const ROOM: u64 = 65_536;
 
+/// What a text is put into: words and numbers beside the copies of frames.
+pub trait Text: Take {
+    fn words(&mut self, words: &str);
+    fn number(&mut self, number: u32);
+}
+
+impl<W: Write> Text for Lines<W> {
+    #[inline(always)]
+    fn words(&mut self, words: &str) {
+        Lines::words(self, words);
+    }
+
+    #[inline(always)]
+    fn number(&mut self, number: u32) {
+        Lines::number(self, number);
+    }
+}
+
 /// A frame's line begins with the end of the line before it.
 impl<W: Write> Take for Lines<W> {
     #[inline(always)]
@@ -58,7 +76,7 @@ fn cores(table: &Table) -> std::result::Result<Vec<Core>, Refusal> {
     Ok(cores)
 }
 
-fn put(image: &[u8], lines: &mut Lines<impl Write>) -> std::result::Result<(), Refusal> {
+fn put_accepted(image: &[u8], lines: &mut impl Text) -> std::result::Result<(), Refusal> {
     let mut table = NOTHING;
     read(image, &mut table)?;
     let mut cores = cores(&table)?;
@@ -82,15 +100,20 @@ fn put(image: &[u8], lines: &mut Lines<impl Write>) -> std::result::Result<(), R
     Ok(())
 }
 
-/// Prints the text of an image.
-pub fn print(image: &[u8], out: impl Write) -> Result<()> {
-    let mut lines = Lines::new(out);
-    if let Err((number, place)) = put(image, &mut lines) {
+/// The text of an image.
+pub fn put(image: &[u8], lines: &mut impl Text) {
+    if let Err((number, place)) = put_accepted(image, lines) {
         lines.words("refused ");
         lines.number(number);
         lines.words(" ");
         lines.number(place as u32);
     }
     lines.words("\n");
+}
+
+/// Prints the text of an image.
+pub fn print(image: &[u8], out: impl Write) -> Result<()> {
+    let mut lines = Lines::new(out);
+    put(image, &mut lines);
     lines.end()
 }

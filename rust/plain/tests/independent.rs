@@ -10,7 +10,7 @@ use plain::ages::{ages, ages_by_every_start, Ages};
 use plain::listing::listing;
 use plain::reading::Refusal;
 use plain::tables;
-use plain::text::print;
+use plain::{buffered, text};
 
 fn refused(refusal: independent::Refusal) -> Refusal {
     (refusal.number, refusal.place)
@@ -57,9 +57,12 @@ fn check_ages(image: &[u8]) {
 
 /// All that is printed.
 fn check_text(image: &[u8]) {
-    let mut text = Vec::new();
-    print(image, &mut text).unwrap();
-    assert!(text == independent::print(image).as_bytes(), "the text of {image:02x?} differs");
+    let (mut fast, mut buffered) = (Vec::new(), Vec::new());
+    text::print(image, &mut fast).unwrap();
+    buffered::print(image, &mut buffered).unwrap();
+    let expected = independent::print(image);
+    assert!(fast == expected.as_bytes(), "the text of {image:02x?} differs");
+    assert!(buffered == expected.as_bytes(), "the buffered text of {image:02x?} differs");
 }
 
 /// Tables of every size, with longer rounds where they are smaller.

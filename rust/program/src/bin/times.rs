@@ -1,6 +1,7 @@
-//! `times PROVED PLAIN [WORD..]`: how long two printing programs take, from the start of the process to
-//! its end, the words before each of them. In turns, the least of many and the middle one. It prints
-//! ratios and is no test of speed; that both print the same is checked first.
+//! `times PROVED PLAIN [WORD..]`: how long the printing programs take, from the start of the process to
+//! its end, the words before each of them; the plain one in both its ways. In turns, the least of
+//! many and the middle one. It prints ratios and is no test of speed; that all print the same is
+//! checked first.
 
 #![forbid(unsafe_code)]
 
@@ -48,26 +49,38 @@ fn least_and_middle(mut times: Vec<f64>) -> [f64; 2] {
     [times[0], times[times.len() / 2]]
 }
 
-fn compare(what: &str, table: &Description, programs: &[Program; 2]) -> Result<()> {
+/// The printing programs: the proved one, the one in plain Rust with a buffered writer, and that as
+/// fast as it could be written.
+struct Programs {
+    proved: Program,
+    buffered: Program,
+    fast: Program,
+}
+
+fn compare(what: &str, table: &Description, programs: &Programs) -> Result<()> {
     let image = std::env::temp_dir().join(format!("times-{}.image", std::process::id()));
     File::create(&image)?.write_all(&table.image())?;
     let path = image.to_string_lossy();
-    let [proved, plain] = programs;
-    let text = plain.of_bytes(&table.image())?;
-    assert!(proved.of_bytes(&table.image())? == text, "{what}: the texts differ");
+    let Programs { proved, buffered, fast } = programs;
+    let text = fast.of_bytes(&table.image())?;
+    for program in [proved, buffered] {
+        assert!(program.of_bytes(&table.image())? == text, "{what}: the texts differ");
+    }
     for (to, whither) in [(To::Pipe, "a pipe"), (To::Null, "/dev/null")] {
-        let (mut of_proved, mut of_plain) = (Vec::new(), Vec::new());
+        let mut times = [Vec::new(), Vec::new(), Vec::new()];
         let begun = Instant::now();
-        while of_plain.len() < LEAST_ROUNDS || begun.elapsed() < LONGEST {
-            of_proved.push(time(proved, &path, to)?);
-            of_plain.push(time(plain, &path, to)?);
+        while times[0].len() < LEAST_ROUNDS || begun.elapsed() < LONGEST {
+            for (times, program) in times.iter_mut().zip([proved, buffered, fast]) {
+                times.push(time(program, &path, to)?);
+            }
         }
-        let (proved, plain) = (least_and_middle(of_proved), least_and_middle(of_plain));
-        let [least, middle] = [proved[0] / plain[0], proved[1] / plain[1]];
-        let [proved, plain] = [proved[0], plain[0]];
-        print!("{what}, {} bytes to {whither}: ", text.printed.len());
-        print!("proved {proved:.0} us, plain Rust {plain:.0} us, ");
-        println!("ratio {least:.3} of the least, {middle:.3} of the middle");
+        let [proved, buffered, fast] = times.map(least_and_middle);
+        println!("{what}, {} bytes to {whither}: proved {:.0} us", text.printed.len(), proved[0]);
+        for (with, plain) in [("a buffered writer", buffered), ("words of eight bytes", fast)] {
+            let [least, middle] = [proved[0] / plain[0], proved[1] / plain[1]];
+            print!("  plain Rust with {with} {:.0} us: ", plain[0]);
+            println!("ratio {least:.3} of the least, {middle:.3} of the middle");
+        }
     }
     std::fs::remove_file(&image)
 }
@@ -78,8 +91,13 @@ fn main() -> ExitCode {
         eprintln!("usage: times PROVED PLAIN [WORD..]");
         return ExitCode::from(2);
     };
-    let started = |program: &String| Program([before, std::slice::from_ref(program)].concat());
-    let programs = [started(proved), started(plain)];
+    let started =
+        |words: &[&String]| Program(before.iter().chain(words.iter().copied()).cloned().collect());
+    let programs = Programs {
+        proved: started(&[proved]),
+        buffered: started(&[plain, &"buffered".to_string()]),
+        fast: started(&[plain]),
+    };
     let tables = [
         ("the longest text", longest_text()),
         ("the largest image", largest_example()),
