@@ -11,8 +11,9 @@ use Rattle.table.specs.declared.Answer.the-variants.{Accepted, Refused}
 use Rattle.table.specs.declared.Refusal.{Refusal}
 use Rattle.table.proofs.FieldRules.{Counts, head-counts}
 use Rattle.fields.proofs.Steps.{taken, not-taken}
-use Rattle.body.specs.Parts.{headOf, headRead, TasksTaken, LabelsTaken, BodyRead}
-use Rattle.body.specs.declared.HeadRead.{HeadRead}
+use Rattle.image_parts.specs.Parts.{headOf, headRead}
+use Rattle.body.specs.Parts.{TasksTaken, LabelsTaken, BodyRead}
+use Rattle.image_parts.specs.declared.HeadRead.{HeadRead}
 
 -- no answer is both
 not-both-answers : {answer : Answer} {r : Refusal} {p : ℕ} → answer ≡ Accepted → answer ≡ Refused r p → ⊥

@@ -1,4 +1,3 @@
 -- Laws of the parts. No contract cites them.
 mod ColumnsTaken
 mod InTurn
-mod Readers

@@ -2,36 +2,17 @@
 use Prim.Native.Nat.{ℕ, _+_, _*_, _≤_}
 use mathlib.Core.Path.{_≡_}
 use mathlib.Core.List.{List, [], _∷_}
-use Rattle.outcomes.specs.Outcome.{Outcome, gives, refuses}
-use Rattle.taking.specs.Reading.{Taken, inRow}
-use Rattle.table.specs.Refusals.{numberOf, saidWith}
+use Rattle.outcomes.specs.Outcome.{gives, refuses}
+use Rattle.taking.specs.Reading.{inRow}
+use Rattle.table.specs.Refusals.{numberOf}
 use Rattle.table.specs.Image.{Head, Task, Label, headBits, taskBits, labelBits, headFields, taskFields, labelFields}
 use Rattle.table.specs.Image.{allFields}
 use Rattle.table.specs.declared.Answer.{Answer}
 use Rattle.table.specs.declared.Answer.the-variants.{Accepted, Refused}
 use Rattle.table.specs.declared.Refusal.{Refusal}
+use Rattle.image_parts.specs.Parts.{headOf}
 use Rattle.body.specs.Columns.{columnsOver, RowRead}
-use Rattle.body.specs.declared.HeadRead.{HeadRead}
-use Rattle.body.specs.declared.parts.TaskRead.{TaskRead}
-use Rattle.body.specs.declared.parts.LabelRead.{LabelRead}
-
--- the head that was read
-abbrev pub headOf : HeadRead → Head
-headOf r = record { cores = r .cores; tasks = r .tasks; labels = r .labels; chains = r .chains }
-
--- the head, with the bit after it, or the refusal's number and place
-abbrev pub headRead : HeadRead → ℕ → Outcome (Taken Head)
-headRead r next = saidWith (r .answer) (record { value = headOf r; next = next })
-
--- a task, with the bit after it, or the refusal's number and place
-abbrev pub taskRead : TaskRead → ℕ → Outcome (Taken Task)
-taskRead r next =
-    saidWith (r .answer) (record { value = record { core = r .core; period = r .period }; next = next })
-
--- a label, with the bit after it, or the refusal's number and place
-abbrev pub labelRead : LabelRead → ℕ → Outcome (Taken Label)
-labelRead r next =
-    saidWith (r .answer) (record { value = record { writer = r .writer; readers = r .readers }; next = next })
+use Rattle.image_parts.specs.declared.HeadRead.{HeadRead}
 
 -- the columns of tasks, and of labels
 abbrev pub taskColumns : List (Task → ℕ)

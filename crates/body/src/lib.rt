@@ -6,25 +6,15 @@ use table::Answer;
 use table::HEAD_BITS;
 use table::TASK_BITS;
 
-mod heads;
 mod labels;
-mod parts;
 mod tasks;
 
-use heads::read_head;
+use image_parts::HeadRead;
+use image_parts::heads::read_head;
 use labels::read_labels;
 use tasks::read_tasks;
 
-// What was read up to the labels: its answer and, beside it, the counts of the head; of a refused one they say nothing.
-pub struct HeadRead {
-    pub answer: Answer,
-    pub cores: usize,
-    pub tasks: usize,
-    pub labels: usize,
-    pub chains: usize,
-}
-
-// What was read, answered by what follows it.
+// What was read up to some part: the counts of the head, answered by what follows them.
 pub fn answered(head: HeadRead, answer: Answer) -> HeadRead
     ensures { λ r. ⌜ r ≡ record {
       answer = answer;

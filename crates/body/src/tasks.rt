@@ -1,30 +1,10 @@
-// "Each task: core 3, period 20" (document 01, Table image).
-ghost use mathlib.Core.Path.{_≡_};
-ghost use Prim.Native.Nat.{_+_, _≤_};
+// All tasks of an image, one after the other (document 01, Table image).
+ghost use Prim.Native.Nat.{_≤_};
 ghost use mathlib.Core.List.{[], _∷_};
-ghost use Rattle.table.specs.Image.{taskBits, taskFields};
-ghost use Rattle.body.specs.Parts.{taskRead, TasksTaken};
-use crate::parts::TaskRead;
-use fields::ranged;
-use fields::ranged_after;
+ghost use Rattle.body.specs.Parts.{TasksTaken};
+use image_parts::tasks::read_task;
 use table::Answer;
-use table::Refusal;
 use table::TASK_BITS;
-
-// One task: its core and its period.
-fn read_task(image: &[u8], at: usize, cores: u32) -> TaskRead
-    requires { ⌜ at ≤ 65535 ⌝ }
-    ensures { λ r. ⌜ taskRead r (at + taskBits) ≡ taskFields cores (now (image .entry)) at ⌝ }
-{
-    let core = ranged(image, at, 3, 0, cores, Refusal::Core);
-    let period = ranged_after(core, image, at + 3, 20, 1, 1000001, Refusal::Period);
-    let answer = period.answer;
-    TaskRead {
-        answer,
-        core: core.value,
-        period: period.value,
-    }
-}
 
 // All tasks, from bit `at` on; the first entries of the arrays hold their cores and periods.
 pub(crate) fn read_tasks(

@@ -1,8 +1,9 @@
 // The ages of a chain.
 ghost use mathlib.Core.Path.{_≡_};
 ghost use Rattle.questions.specs.Questions.{ages};
-ghost use Rattle.capi.specs.Said.{agesSaid};
-use crate::LiskobranAges;
+ghost use Rattle.c_answers.specs.Said.{agesSaid};
+use c_answers::LiskobranAges;
+use c_answers::of_chain;
 use questions::AgesAnswer;
 
 // How many basic paths a chain of the image's table has in a round, their longest length, their worst and best age, and
@@ -19,23 +20,7 @@ pub extern "C" fn liskobran_ages_slice(image: &[u8], chain: u64) -> LiskobranAge
             worst,
             best,
             jitter,
-        } => LiskobranAges {
-            number: 0,
-            place: 0,
-            paths,
-            longest,
-            worst,
-            best,
-            jitter,
-        },
-        AgesAnswer::Refused { refusal, place } => LiskobranAges {
-            number: table::number_of(refusal),
-            place: place as u64,
-            paths: 0,
-            longest: 0,
-            worst: 0,
-            best: 0,
-            jitter: 0,
-        },
+        } => of_chain::given(paths, longest, worst, best, jitter),
+        AgesAnswer::Refused { refusal, place } => of_chain::refused(refusal, place),
     }
 }

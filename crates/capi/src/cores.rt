@@ -2,8 +2,9 @@
 ghost use mathlib.Core.Path.{_≡_};
 ghost use lib.ListN.{length};
 ghost use Rattle.questions.specs.Questions.{bytesListed, lentAfter, listing};
-ghost use Rattle.capi.specs.Said.{listingSaid};
-use crate::LiskobranListing;
+ghost use Rattle.c_answers.specs.Said.{listingSaid};
+use c_answers::LiskobranListing;
+use c_answers::of_core;
 use questions::ListingAnswer;
 
 // The copy listing of core `core` of the image's table, in the first bytes of the lent buffer.
@@ -20,15 +21,7 @@ pub extern "C" fn liskobran_listing_slice(
 {
     let answer = questions::listing(image, core, buffer);
     match answer {
-        ListingAnswer::Listed { bytes } => LiskobranListing {
-            number: 0,
-            place: 0,
-            bytes: bytes as u64,
-        },
-        ListingAnswer::Refused { refusal, place } => LiskobranListing {
-            number: table::number_of(refusal),
-            place: place as u64,
-            bytes: 0,
-        },
+        ListingAnswer::Listed { bytes } => of_core::given(bytes),
+        ListingAnswer::Refused { refusal, place } => of_core::refused(refusal, place),
     }
 }

@@ -1,8 +1,9 @@
 // The points of a pair of tasks.
 ghost use mathlib.Core.Path.{_≡_};
 ghost use Rattle.questions.specs.Questions.{points};
-ghost use Rattle.capi.specs.Said.{pointsSaid};
-use crate::LiskobranPoints;
+ghost use Rattle.c_answers.specs.Said.{pointsSaid};
+use c_answers::LiskobranPoints;
+use c_answers::of_pair;
 use questions::PointsAnswer;
 
 // The publishing point P(n) and the reading point Q(n) of a writer and a reader, two tasks of the image's table.
@@ -20,17 +21,7 @@ pub extern "C" fn liskobran_points_slice(
         PointsAnswer::Points {
             publishing,
             reading,
-        } => LiskobranPoints {
-            number: 0,
-            place: 0,
-            publishing,
-            reading,
-        },
-        PointsAnswer::Refused { refusal, place } => LiskobranPoints {
-            number: table::number_of(refusal),
-            place: place as u64,
-            publishing: 0,
-            reading: 0,
-        },
+        } => of_pair::given(publishing, reading),
+        PointsAnswer::Refused { refusal, place } => of_pair::refused(refusal, place),
     }
 }

@@ -1,8 +1,9 @@
 // What is said of an image alone.
 ghost use mathlib.Core.Path.{_≡_};
 ghost use Rattle.table.specs.Shown.{answerOf};
-ghost use Rattle.capi.specs.Said.{readSaid};
-use crate::LiskobranAnswer;
+ghost use Rattle.c_answers.specs.Said.{readSaid};
+use c_answers::LiskobranAnswer;
+use c_answers::of_image;
 use table::Answer;
 
 // Is the image accepted, or with which number and at which place is it refused?
@@ -13,13 +14,7 @@ pub extern "C" fn liskobran_read_slice(image: &[u8]) -> LiskobranAnswer
     let read = images::read_table(image);
     let answer = read.answer;
     match answer {
-        Answer::Accepted => LiskobranAnswer {
-            number: 0,
-            place: 0,
-        },
-        Answer::Refused { refusal, place } => LiskobranAnswer {
-            number: table::number_of(refusal),
-            place: place as u64,
-        },
+        Answer::Accepted => of_image::accepted(),
+        Answer::Refused { refusal, place } => of_image::refused(refusal, place),
     }
 }

@@ -17,7 +17,7 @@ use Rattle.copies.specs.Listing.{copyFields, frameFields, listingFields, listin
 use Rattle.ages.specs.Ages.{follow, endOf, isBasic, lengthOf, ageOf, roundOf, basicPaths, largest, least, worstAge}
 use Rattle.ages.specs.Ages.{bestAge, agesOf}
 use Rattle.questions.specs.Questions.{coreListed, listing}
-use Rattle.printing.specs.FirstLine.{hyperperiod}
+use Rattle.first_line.specs.FirstLine.{hyperperiod}
 use Rattle.cases.specs.Kinds.{AllHold, none, _also_, Holds}
 use Rattle.cases.specs.Starred.{starred}
 

@@ -14,7 +14,7 @@ use Rattle.copies.specs.Plans.{Plan}
 use Rattle.ages.specs.Ages.{Chain, Ages, endOf, agesOf}
 use Rattle.questions.specs.Questions as question
 use Rattle.printing.specs.Printed as printing
-use Rattle.printing.specs.FirstLine as rounds
+use Rattle.first_line.specs.FirstLine as rounds
 
 -- the answer P(n), Q(n)
 abbrev pub pair : (P Q : ℕ) → Outcome question.Points

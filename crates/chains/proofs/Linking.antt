@@ -13,7 +13,7 @@ use borrow.Author.Tests.{eqb-true, eqb-false, eq-eqb, ne-eqb}
 use Rattle.lists.specs.Lists.{lastBelow}
 use Rattle.lists.proofs.Bools.{true-or-false}
 use Rattle.lists.proofs.Last.{last-within}
-use Rattle.chains.specs.Linked.{lastWritten, Linked, Falling}
+use Rattle.chain_steps.specs.Linked.{lastWritten, Linked, Falling}
 
 -- every entry of a list after one of them was stored
 stored : (P : ℕ → ℕ → Type 0) (xs : List ℕ) (i x : ℕ) → i < length xs → P i x

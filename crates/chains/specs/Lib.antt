@@ -1,3 +1,2 @@
 -- Definitions of this crate.
-pub mod Linked
 pub mod Parts

@@ -5,23 +5,14 @@ use mathlib.Core.Path.{_≡_}
 use mathlib.Core.List.{List, map}
 use lib.ListN.{length}
 use Rattle.lists.specs.Lists.{padded, over}
-use Rattle.taking.specs.Reading.{field, inRow}
+use Rattle.taking.specs.Reading.{inRow}
 use Rattle.table.specs.Refusals.{saidWith}
 use Rattle.table.specs.Table.{Rows}
-use Rattle.table.specs.Image.{chainTask, chainFields}
+use Rattle.table.specs.Image.{chainFields}
 use Rattle.table.specs.declared.Answer.the-variants.{Accepted}
 use Rattle.table.specs.declared.Table.{Table}
 use Rattle.chains.specs.declared.ChainsRead.{ChainsRead}
-use Rattle.chains.specs.declared.parts.StepsRead.{StepsRead}
 use Rattle.chains.specs.declared.parts.ChainRead.{ChainRead}
-
--- a chain's task numbers from bit `at` on, with the bit after them, or the refusal's number and place; the row holds
--- those that were taken, and then 0
-pub record StepsTaken (image : List ℕ) (at : ℕ) (table : Table) (count : ℕ) (r : StepsRead) : Type 0 where
-  pub steps : List ℕ
-  pub said : saidWith (r .answer) (record { value = steps; next = at + 5 * count })
-      ≡ inRow count (λ before. field 5 8 (chainTask table before)) image at
-  pub held : r .row ≡ padded 8 0 steps
 
 -- a chain from bit `at` on, with the bit after it, or the refusal's number and place; its length; and its row
 pub record ChainTaken (image : List ℕ) (at : ℕ) (table : Table) (r : ChainRead) : Type 0 where

@@ -1,31 +1,24 @@
 // "Each chain: length 4, then that many task numbers of 5" (document 01, Table image).
 ghost use mathlib.Core.Path.{_≡_};
 ghost use Prim.Native.Nat.{_≤_, min};
-ghost use Rattle.chains.specs.Linked.{Falling, InEachSearched, InEachLabelled};
+ghost use Rattle.chain_steps.specs.Linked.{Falling, InEachSearched, InEachLabelled};
 ghost use Rattle.chains.specs.Parts.{ChainTaken, ChainsTaken};
+use chain_steps::read_steps;
 use fields::ranged;
+use lists::held;
 use table::Answer;
 use table::Refusal;
 
 mod links;
 mod parts;
-mod searches;
 
 use links::link;
 use parts::ChainRead;
-use searches::read_steps;
 
 // What reading all chains gives: the answer and, beside it, the bit after them; of refused ones it says nothing.
 pub struct ChainsRead {
     pub answer: Answer,
     pub next: usize,
-}
-
-// A count, of which an array holds no more than `most`.
-fn counted(count: usize, most: usize) -> usize
-    ensures { λ r. ⌜ r ≡ min count most ⌝ }
-{
-    if count < most { count } else { most }
 }
 
 // One chain: its length, and then its task numbers.
@@ -85,8 +78,8 @@ pub fn read_chains(
         (λ table. ChainsTaken (now (image .entry)) at table (min chains 16) r (now (length .entry)) (now (length .exit))
         (now (rows .entry)) (now (rows .exit))) ⌝ }
 {
-    let count = counted(chains, 16);
-    let linked = counted(labels, 64);
+    let count = held(chains, 16);
+    let linked = held(labels, 64);
     let mut latest = [0u8; 32];
     let mut before = [0u8; 64];
     link(writer, linked, &mut latest, &mut before);

@@ -4,7 +4,7 @@
 ghost use mathlib.Core.Path.{_≡_};
 ghost use Prim.Native.Nat.{_≤_};
 ghost use lib.ListN.{replicate};
-ghost use Rattle.chains.specs.Linked.{Linked, Falling};
+ghost use Rattle.chain_steps.specs.Linked.{Linked, Falling};
 
 // Label after label: the one before it is the last that its writer was met with, and it is now the last itself. A
 // writer past the 32 tasks is no chain's.

@@ -1,12 +1,6 @@
-// What the parts of a chain answer: each an answer and, beside it, what was read. Of a refused part what stands beside
-// the answer says nothing. What each stands for: specs/Parts.antt.
+// What reading one chain answers: an answer and, beside it, what was read. Of a refused chain what stands beside the
+// answer says nothing. What it stands for: specs/Parts.antt.
 use table::Answer;
-
-// The task numbers of one chain.
-pub struct StepsRead {
-    pub answer: Answer,
-    pub row: [u32; 8],
-}
 
 // One chain.
 pub struct ChainRead {

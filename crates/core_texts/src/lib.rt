@@ -7,11 +7,12 @@ ghost use Rattle.texts.specs.Puts.{PutsText};
 
 mod walked;
 
-use frames::instant::gather_both;
+use frames::gather_both;
+use gathering::joined_masks;
 use label_masks::read_labels;
 use label_masks::written_labels;
+use line_texts::put_core;
 use table::Table;
-use texts::lines::put_core;
 use walked::put_frames;
 
 // The text of a core of a table, from a place on; the next place. Of any other table the bytes may hold anything, and it
@@ -23,11 +24,23 @@ pub fn put_core_text(bytes: &mut [u8], at: usize, table: Table, core: u32, round
     let writer = table.writer;
     let readers = table.readers;
     let periods = table.period;
-    let written = written_labels(table.labels, &writer);
-    let read = read_labels(table.labels, table.tasks, &readers);
-    let mut publishing = [0u32; 1024];
-    let mut reading = [0u32; 1024];
-    let both = gather_both(table, core, &mut publishing, &mut reading);
+    let cores = table.core;
+    let mut written = [0u64; 32];
+    let mut read = [0u64; 32];
+    let mut joined = [0u32; 32];
+    written_labels(table.labels, &writer, &mut written);
+    read_labels(table.labels, table.tasks, &readers, &mut read);
+    joined_masks(table.labels, &writer, &readers, &mut joined);
+    let mut publishing = [4294967295u32; 1024];
+    let mut reading = [4294967295u32; 1024];
+    let both = gather_both(
+        core,
+        table.tasks,
+        &cores,
+        &joined,
+        &mut publishing,
+        &mut reading,
+    );
     let first = both.publishing;
     let second = both.reading;
     let next = put_core(bytes, at, core);

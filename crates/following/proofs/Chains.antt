@@ -1,29 +1,17 @@
 -- The chain of a table's tasks, by their periods; and its round. Assumes nothing.
 use Prim.Native.Nat.{ℕ, zero, suc, _+_, _-_, _<_, _≤_}
 use mathlib.Core.Path.{_≡_, refl, ap, ap₂, _∙_}
-use mathlib.Core.Logic.{by-cases}
 use mathlib.Core.List.{List, [], _∷_, map}
 use native.Mathlib.Nat.{add-zero}
-use native.Mathlib.Decide.{decLt}
 use native.Mathlib.Omega.{arith}
-use lib.ListN.{length, getD, set, take, drop}
-use lib.Seq.{getD-set-same, getD-set-other, drop-cons}
+use lib.ListN.{length, getD, take, drop}
+use lib.Seq.{drop-cons}
 use Rattle.times.specs.Releases.{Timing, every}
 use Rattle.times.specs.Hyperperiod.{lcmOf}
 use Rattle.table.specs.Table.{periodOf, timingOf}
 use Rattle.table.specs.declared.Table.{Table}
 use Rattle.ages.specs.Ages.{roundOf, chainTimings}
-use Rattle.following.specs.Following.{tasksFrom, chainBy, PeriodsOf}
-
--- one period more
-pub periods-more : (period row periods : List ℕ) (i : ℕ) → i < length periods → PeriodsOf period row i periods
-    → PeriodsOf period row (i + 1) (set periods i (getD period (getD row i 0) 0))
-periods-more period row periods i inside before j below =
-    by-cases (decLt j i)
-    (λ earlier. getD-set-other periods i j _ 0 (λ same. omega arith) ∙ before j earlier)
-    (λ last.
-    let own : j ≡ i = omega arith in
-    rw own (getD-set-same periods i _ 0 inside))
+use Rattle.following.specs.Following.{tasksFrom, chainBy}
 
 -- the tasks of these numbers, in their order
 tasks-of : (table : Table) (periods tasks : List ℕ) (i : ℕ)

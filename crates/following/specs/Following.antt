@@ -39,10 +39,6 @@ unfoldable pub endFrom : (periods : List ℕ) (at count x : ℕ) → ℕ
 endFrom periods at count x =
     passed (tasksFrom periods (at + 1) (count - (at + 1))) x - getD periods (count - 1) 0
 
--- the periods of the first tasks of a row, so many
-abbrev pub PeriodsOf : (period row : List ℕ) (count : ℕ) (periods : List ℕ) → Type 0
-PeriodsOf period row count periods = (j : ℕ) → j < count → getD periods j 0 ≡ getD period (getD row j 0) 0
-
 -- so many periods as a chain of a table may have
 pub record RightPeriods (periods : List ℕ) (count : ℕ) : Type 0 where
   pub few : count ≤ 8

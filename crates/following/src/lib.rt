@@ -9,8 +9,8 @@ ghost use Rattle.following.specs.Following.{RightPeriods, PublishedAt, P
 ghost use Rattle.following.specs.Fours.{All, Each};
 
 pub mod four;
-pub mod periods;
 mod releases;
+pub mod rounds;
 
 use four::Four;
 use four::all_last_to;

@@ -10,8 +10,8 @@ mod parts;
 
 use parts::put_reads;
 use parts::put_writes;
-use texts::puts::put_byte;
-use texts::puts::put_number;
+use texts::put_byte;
+use texts::put_number;
 
 // The line of the frame at tick t, from a place on; the next place.
 pub fn put_frame(

@@ -6,12 +6,12 @@ ghost use Rattle.copies.specs.Copies.{write, read};
 ghost use Rattle.instants.specs.Due.{readsDue, writesIn, readsIn};
 ghost use Rattle.printing.specs.Printed.{copyText};
 ghost use Rattle.texts.specs.Puts.{PutsText};
-use instants::labels::first_label;
-use instants::labels::without;
+use masks::first_label;
+use masks::without;
 use readers::next_reader;
-use texts::puts::put_byte;
-use texts::puts::put_number;
-use texts::puts::put_word;
+use texts::put_byte;
+use texts::put_number;
+use texts::put_word;
 
 // One write, whoever the writer is.
 fn put_write(bytes: &mut [u8], at: usize, label: u32) -> usize

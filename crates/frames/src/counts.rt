@@ -8,7 +8,7 @@ use crate::Measured;
 use crate::instant::instant_at;
 
 // Instant after instant: how many frames and copies there are. Of a table that is not right an instant may not move on.
-pub(crate) fn count_frames(
+pub fn count_frames(
     round: u32,
     periods: &[u32; 32],
     written: &[u64; 32],

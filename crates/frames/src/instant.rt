@@ -6,19 +6,9 @@ ghost use Prim.Native.Nat.{min, _+_, _≤_, _<_, _^_};
 ghost use lib.Count.{ones};
 ghost use lib.ListN.{length};
 ghost use Rattle.counters.specs.Advanced.{stepped, masksDue, labelsDue, countDue, nextDue};
-ghost use Rattle.frames.specs.Ready.{ReadyBoth};
 use counters::advance_reads;
 use counters::advance_writes;
 use counters::how_many;
-use gathering::gather;
-use gathering::joined_masks;
-use table::Table;
-
-// How many publishing counters and how many reading counters a core has.
-pub struct Both {
-    pub publishing: usize,
-    pub reading: usize,
-}
 
 // An instant: of each writer the readers that are served, the labels that are written and those that are read, how many
 // copies there are, and the next instant at which a counter is due.
@@ -35,29 +25,6 @@ fn earlier(a: u32, b: u32) -> u32
     ensures { λ r. ⌜ r ≡ min a b ⌝ }
 {
     if a < b { a } else { b }
-}
-
-// The counters of a core at tick 0, at the start of the two arrays.
-pub fn gather_both(
-    table: Table,
-    core: u32,
-    publishing: &mut [u32; 1024],
-    reading: &mut [u32; 1024],
-) -> Both
-    ensures { λ r. ⌜ ReadyBoth table core (now (publishing .entry)) (now (reading .entry)) r
-        (now (publishing .exit)) (now (reading .exit)) ⌝ }
-{
-    let writer = table.writer;
-    let readers = table.readers;
-    let cores = table.core;
-    let periods = table.period;
-    let joined = joined_masks(table.labels, &writer, &readers);
-    let first = gather(false, core, &cores, &periods, joined, publishing);
-    let second = gather(true, core, &cores, &periods, joined, reading);
-    Both {
-        publishing: first,
-        reading: second,
-    }
 }
 
 // What is due at tick t, by the labels that each task writes and reads; each counter of that tick goes on.

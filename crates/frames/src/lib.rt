@@ -1,15 +1,11 @@
 // The frames of a core over a round, gone through from point to point (document 01, Copies and frames): counted first,
 // so that a listing's length is known before a byte is written, and written second.
-ghost use Rattle.frames.specs.Counts.{RightRound, CountsFrames};
+ghost use Rattle.frames.specs.Ready.{StoredBoth};
 
-mod counts;
+pub mod counts;
 pub mod instant;
 
-use counts::count_frames;
-use instant::gather_both;
-use label_masks::read_labels;
-use label_masks::written_labels;
-use table::Table;
+use gathering::gather;
 
 // How many frames a core has in a round, and how many copies in all of them.
 pub struct Measured {
@@ -17,26 +13,29 @@ pub struct Measured {
     pub copies: u64,
 }
 
-// How many frames and copies the listing of a core of a table has; of any other table it says nothing, and ends.
-pub fn measure(table: Table, core: u32, round: u32) -> Measured
-    ensures { λ r. ⌜ (RightRound table round → CountsFrames table core r) ⌝ }
+// How many publishing counters and how many reading counters a core has.
+pub struct Both {
+    pub publishing: usize,
+    pub reading: usize,
+}
+
+// The counters of a core at tick 0, at the start of what is lent, as far as it goes: by the cores of the tasks, and of each
+// task the readers of the labels that it writes.
+pub fn gather_both(
+    core: u32,
+    tasks: usize,
+    cores: &[u32; 32],
+    joined: &[u32; 32],
+    publishing: &mut [u32],
+    reading: &mut [u32],
+) -> Both
+    ensures { λ r. ⌜ StoredBoth core tasks (now (cores .entry)) (now (joined .entry))
+        (now (publishing .entry)) (now (reading .entry)) r (now (publishing .exit)) (now (reading .exit)) ⌝ }
 {
-    let writer = table.writer;
-    let readers = table.readers;
-    let periods = table.period;
-    let written = written_labels(table.labels, &writer);
-    let read = read_labels(table.labels, table.tasks, &readers);
-    let mut publishing = [0u32; 1024];
-    let mut reading = [0u32; 1024];
-    let both = gather_both(table, core, &mut publishing, &mut reading);
-    let first = both.publishing;
-    let second = both.reading;
-    count_frames(
-        round,
-        &periods,
-        &written,
-        &read,
-        &mut publishing[0..first],
-        &mut reading[0..second],
-    )
+    let first = gather(false, core, tasks, cores, joined, publishing);
+    let second = gather(true, core, tasks, cores, joined, reading);
+    Both {
+        publishing: first,
+        reading: second,
+    }
 }

@@ -1,47 +1,54 @@
 // The listing of a core, written into lent bytes (document 01, Copies and frames: "A listing: core 3, H 20, frame count
 // 20; then each frame by rising time: start 20, copy count 12, and each copy").
+ghost use Prim.Native.Nat.{ℕ, _≤_};
+ghost use mathlib.Core.Path.{_≡_};
+ghost use lib.ListN.{length};
+ghost use Rattle.table.specs.declared.Table.{Table};
 ghost use Rattle.frames.specs.Counts.{RightRound};
+ghost use Rattle.frames.specs.Ready.{GoesOver, Ready};
 ghost use Rattle.framing.specs.Written.{WritesListing};
 
 mod written;
 
-use frames::instant::gather_both;
-use label_masks::read_labels;
-use label_masks::written_labels;
 use packing::Pen;
 use packing::finish;
-use table::Table;
 use written::write_frames;
 use written::write_head;
 
-// The listing of a core of a table that has so many frames there; of any other table the bytes may hold anything, and it
-// ends. It answers how many bytes the listing fills.
-pub fn write_listing(table: Table, core: u32, round: u32, frames: u32, bytes: &mut [u8]) -> usize
-    ensures { λ r. ⌜ (RightRound table round
+// The listing of a core of a table that has so many frames there, by its counters at tick 0; of any other table the bytes
+// may hold anything, and it ends. It answers how many bytes the listing fills.
+pub fn write_listing(
+    bytes: &mut [u8],
+    core: u32,
+    round: u32,
+    frames: u32,
+    writer: &[u32; 64],
+    readers: &[u32; 64],
+    periods: &[u32; 32],
+    written: &[u64; 32],
+    read: &[u64; 32],
+    publishing: &mut [u32],
+    reading: &mut [u32],
+) -> usize
+    requires { ⌜ length (now reading) ≤ 1024 ⌝ }
+    ensures { λ r. ⌜ ((table : Table) → RightRound table round
+        → (now (writer .entry) ≡ table .writer) × (now (readers .entry) ≡ table .readers)
+        → GoesOver table (now (periods .entry)) (now (written .entry)) (now (read .entry))
+        → Ready table core 0 (now (publishing .entry)) (now (reading .entry))
         → WritesListing table core frames (now (bytes .entry)) (now (bytes .exit)) r) ⌝ }
 {
-    let writer = table.writer;
-    let readers = table.readers;
-    let periods = table.period;
-    let written = written_labels(table.labels, &writer);
-    let read = read_labels(table.labels, table.tasks, &readers);
-    let mut publishing = [0u32; 1024];
-    let mut reading = [0u32; 1024];
-    let both = gather_both(table, core, &mut publishing, &mut reading);
-    let first = both.publishing;
-    let second = both.reading;
     let head = write_head(bytes, core, round, frames);
     let pen = write_frames(
         bytes,
         head,
         round,
-        &writer,
-        &readers,
-        &periods,
-        &written,
-        &read,
-        &mut publishing[0..first],
-        &mut reading[0..second],
+        writer,
+        readers,
+        periods,
+        written,
+        read,
+        publishing,
+        reading,
     );
     finish(bytes, pen)
 }

@@ -1,9 +1,10 @@
 -- The number of a pair, and a counter's number: the parts that they are made of come out again. Assumes nothing.
 use Prim.Native.Nat.{ℕ, _<_, _≤_}
-use mathlib.Core.Bool.{Bool}
+use mathlib.Core.Bool.{Bool, true, false}
 use mathlib.Core.List.{List}
-use mathlib.Core.Path.{_≡_}
+use mathlib.Core.Path.{_≡_, ap}
 use native.Mathlib.Omega.{arith}
+use Rattle.next_points.proofs.AtZero.{publishing-at-zero, reading-at-zero}
 use Rattle.gathering.specs.Pairs.{codeOf}
 use Rattle.gathering.specs.Counters.{counterOf, lastTick, tickIn, writerIn, readerIn}
 use Rattle.gathering.specs.Counters.{timingIn, pointFrom, counterFrom}
@@ -20,6 +21,12 @@ module _ (w r : ℕ) (writes : w < 32) (reads : r < 32) where
       ≡ counterOf (pointFrom kind (timingIn periods w) (timingIn periods r) t) (codeOf w r)
   unfolding counterFrom
   pair-counter kind periods t = rw (code-writer, code-reader)
+
+-- at tick 0 each pair has a point, whatever the periods
+pub counter-at-zero : (kind : Bool) (periods : List ℕ) (pair : ℕ) → counterFrom kind periods 0 pair ≡ counterOf 0 pair
+unfolding counterFrom pointFrom
+counter-at-zero true periods pair = ap (λ point. counterOf point pair) (reading-at-zero _ _)
+counter-at-zero false periods pair = ap (λ point. counterOf point pair) (publishing-at-zero _ _)
 
 module _ (point pair : ℕ) where
   pub counter-tick : point ≤ lastTick → tickIn (counterOf point pair) ≡ point

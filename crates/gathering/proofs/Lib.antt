@@ -2,4 +2,5 @@
 pub mod Codes
 pub mod InArray
 pub mod Passed
+pub mod Rest
 pub mod Walk

@@ -1,17 +1,19 @@
 -- The pairs of one writer, met by going from one reader to the next. Assumes nothing.
-use Prim.Native.Nat.{ℕ, _+_, _≤_}
-use mathlib.Core.Path.{_≡_, refl, ap, _∙_}
-use mathlib.Core.Bool.{Bool, true}
+use Prim.Native.Nat.{ℕ, _+_, _<_, _≤_}
+use mathlib.Core.Path.{_≡_, refl, sym, ap, _∙_}
+use mathlib.Core.Bool.{Bool, true, false}
 use mathlib.Core.List.{List, [], _∷_, _++_, append-nil}
 use native.Mathlib.Numerals.{add-one}
+use native.Mathlib.Omega.{arith}
 use borrow.Author.Tests.{eq-eqb, ne-eqb}
 use lib.ListN.{getD}
-use Rattle.lists.specs.Lists.{eachBelow, eachOf}
+use Rattle.lists.specs.Lists.{eachBelow, eachOf, onlyIf}
+use Rattle.lists.proofs.Below.{each-below-less}
 use Rattle.lists.proofs.Each.{each-of-append}
 use Rattle.table.specs.Table.{marks}
 use Rattle.readers.specs.NextReader.{nextReader}
 use Rattle.readers.proofs.Walk.{met, walk-on, walk-meets}
-use Rattle.gathering.specs.Pairs.{codeOf, ownTask, pairCounted, tasksIn, pairsWith, pairsOf}
+use Rattle.gathering.specs.Pairs.{codeOf, ownTask, pairCounted, tasksIn, pairsWith, pairsBelow, pairsOf}
 
 module _ (reads : Bool) (core : ℕ) (cores : List ℕ) (w : ℕ) where
   -- one pair
@@ -50,20 +52,29 @@ module _ (reads : Bool) (core : ℕ) (cores : List ℕ) (w : ℕ) where
   unfolding pairsWith tasksIn
   all-met mask = refl
 
+-- a mask that marks nobody
+nobody : (mask : ℕ) → ((r : ℕ) → marks mask r ≡ false) → tasksIn mask ≡ []
+unfolding tasksIn eachBelow
+nobody mask unmarked =
+    each-below-less 0 32 (λ r. onlyIf (marks mask r) r) (omega arith) (λ r past known. rw (unmarked r))
+
 -- the pairs of the first writers
 module _ (reads : Bool) (core : ℕ) (cores joined : List ℕ) where
-  abbrev pub pairsBelow : ℕ → List ℕ
-  pairsBelow n = eachBelow n (λ w. pairsWith reads core cores w (getD joined w 0))
-
-  pub no-writer : pairsBelow 0 ≡ []
+  pub no-writer : pairsBelow reads core cores joined 0 ≡ []
   unfolding eachBelow
   no-writer = refl
 
   pub one-writer-more : (w : ℕ)
-      → pairsBelow (w + 1) ≡ pairsBelow w ++ pairsWith reads core cores w (getD joined w 0)
+      → pairsBelow reads core cores joined (w + 1)
+      ≡ pairsBelow reads core cores joined w ++ pairsWith reads core cores w (getD joined w 0)
   unfolding eachBelow
   one-writer-more w = rw add-one
 
-  pub all-writers : pairsBelow 32 ≡ pairsOf reads core cores joined
-  unfolding pairsOf
-  all-writers = refl
+  -- no pair has a writer past those that have a reader
+  pub all-writers : (writers : ℕ) → writers ≤ 32
+      → ((w r : ℕ) → writers ≤ w → w < 32 → marks (getD joined w 0) r ≡ false)
+      → pairsBelow reads core cores joined writers ≡ pairsOf reads core cores joined
+  unfolding pairsOf pairsWith eachOf
+  all-writers writers few none =
+      sym (each-below-less writers 32 _ few (λ w past known.
+      ap (λ tasks. eachOf tasks (pairCounted reads core cores w)) (nobody (getD joined w 0) (λ r. none w r past known))))

@@ -45,6 +45,10 @@ tasksIn mask = eachBelow 32 (λ r. onlyIf (marks mask r) r)
 unfoldable pub pairsWith : (reads : Bool) → (core : ℕ) → (cores : List ℕ) → (w mask : ℕ) → List ℕ
 pairsWith reads core cores w mask = eachOf (tasksIn mask) (pairCounted reads core cores w)
 
--- the pairs that a core counts, by rising writer and, within a writer, rising reader
+-- the pairs that a core counts, of the first writers: by rising writer and, within a writer, rising reader
+abbrev pub pairsBelow : (reads : Bool) → (core : ℕ) → (cores joined : List ℕ) → (writers : ℕ) → List ℕ
+pairsBelow reads core cores joined writers = eachBelow writers (λ w. pairsWith reads core cores w (getD joined w 0))
+
+-- the pairs that a core counts
 unfoldable pub pairsOf : (reads : Bool) → (core : ℕ) → (cores joined : List ℕ) → List ℕ
-pairsOf reads core cores joined = eachBelow 32 (λ w. pairsWith reads core cores w (getD joined w 0))
+pairsOf reads core cores joined = pairsBelow reads core cores joined 32

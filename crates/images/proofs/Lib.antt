@@ -1,5 +1,5 @@
 -- Laws of the reader, for the crates above and for the functions here.
-mod Bodies
+pub mod Asked
 pub mod Determined
-mod TablesShown
-mod WholeImage
+pub mod TablesShown
+pub mod WholeImage

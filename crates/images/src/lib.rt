@@ -1,16 +1,15 @@
 // The reader of an image: any string of bytes in, a table or one numbered refusal out (document 01: Table image, Numbers
 // that say no).
 ghost use mathlib.Core.Path.{_≡_};
-ghost use Rattle.table.specs.Image.{readImage};
 ghost use Rattle.table.specs.Shown.{shownOf};
-ghost use Rattle.images.specs.TableShown.{TableShown, rowsAfter};
+ghost use Rattle.images.specs.TableShown.{TableShown};
 use table::Answer;
 use table::Table;
 
-mod endings;
-mod wholes;
+pub mod tables;
+pub mod wholes;
 
-use wholes::read_all;
+use tables::read_all;
 
 // What reading an image shows: its answer and, beside it, its table; of a refused image, the table with nothing in it.
 pub struct TableRead {
@@ -26,31 +25,15 @@ pub fn read_table(image: &[u8]) -> TableRead
     read_all(image, &mut rows)
 }
 
-// The table with the answer beside it, and the rows of its chains into rows that are lent; those of a refused image hold
-// what they held.
-pub fn read_whole(image: &[u8], rows: &mut [[u32; 8]; 16]) -> TableRead
-    ensures { λ r. ⌜ TableShown (now (image .entry)) r
-        × (now (rows .exit) ≡ rowsAfter (readImage (now (image .entry))) (now (rows .entry))) ⌝ }
+// The task numbers of an image's chains: sixteen rows of eight, by value. Of a refused image they are all 0.
+pub fn read_rows(image: &[u8]) -> [[u32; 8]; 16]
+    ensures { λ r. ⌜ r ≡ shownOf (now (image .entry)) .rows ⌝ }
 {
     let mut taken = [[0u32; 8]; 16];
     let read = read_all(image, &mut taken);
     let answer = read.answer;
     let Answer::Accepted = answer else {
-        return read;
-    };
-    *rows = taken;
-    read
-}
-
-// The task numbers of an image's chains: sixteen rows of eight, by value. Of a refused image they are all 0.
-pub fn read_rows(image: &[u8]) -> [[u32; 8]; 16]
-    ensures { λ r. ⌜ r ≡ shownOf (now (image .entry)) .rows ⌝ }
-{
-    let mut rows = [[0u32; 8]; 16];
-    let read = read_all(image, &mut rows);
-    let answer = read.answer;
-    let Answer::Accepted = answer else {
         return [[0u32; 8]; 16];
     };
-    rows
+    taken
 }

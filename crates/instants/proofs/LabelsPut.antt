@@ -8,14 +8,6 @@ use Rattle.masks.specs.Masks.{alone, eachHeld}
 use Rattle.masks.proofs.First.{FirstHeld, first-held, held-none}
 use Rattle.copies.specs.Copies.{Copy}
 
--- the first label of a mask
-module _ (mask : ℕ) (some : 0 < mask) (few : mask < 2 ^ 64) where
-  pub first-known : leadingZeros 64 mask < 64
-  first-known = first-held {A = ℕ} (λ l. []) 64 mask some few .known
-
-  pub first-within : alone 64 (leadingZeros 64 mask) ≤ mask
-  first-within = first-held {A = ℕ} (λ l. []) 64 mask some few .within
-
 -- what the labels of a mask have to add
 module _ (adds : ℕ → List Copy) where
   abbrev all : ℕ → List Copy

@@ -2,23 +2,14 @@
 // are read, and of the readers that are served from each writer. What they are: specs/.
 ghost use mathlib.Core.Path.{_≡_};
 ghost use mathlib.Core.List.{_++_};
-ghost use Prim.Native.Nat.{min};
 ghost use Rattle.instants.specs.Due.{writesIn, readsIn};
 ghost use Rattle.instants.specs.Puts.{PutsCopies};
 
-pub mod labels;
 mod puts;
 
 use packing::Pen;
 use puts::write_reads;
 use puts::write_writes;
-
-// How many labels the arrays hold.
-pub fn held(labels: usize) -> usize
-    ensures { λ r. ⌜ r ≡ min labels 64 ⌝ }
-{
-    if labels < 64 { labels } else { 64 }
-}
 
 // The copies of an instant, put into lent bytes: the writes, then the reads.
 pub fn write_copies(

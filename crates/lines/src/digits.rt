@@ -22,7 +22,7 @@ fn digit(byte: u8) -> u8
 }
 
 // The digit at a place of a text; none stands past its end.
-pub(crate) fn digit_at(text: &[u8], at: usize) -> u8
+pub fn digit_at(text: &[u8], at: usize) -> u8
     ensures { λ r. ⌜ r ≡ digitAt (now (text .entry)) at ⌝ }
 {
     if at < text.len() {
@@ -32,7 +32,7 @@ pub(crate) fn digit_at(text: &[u8], at: usize) -> u8
 }
 
 // A space stands at a place of a text.
-pub(crate) fn spaced(text: &[u8], at: usize) -> bool
+pub fn spaced(text: &[u8], at: usize) -> bool
     ensures { λ r. ⌜ r ≡ spaceAt (now (text .entry)) at ⌝ }
 {
     if at < text.len() {

@@ -2,3 +2,4 @@
 pub mod Bitwise
 pub mod Counted
 pub mod First
+mod OfLabels

@@ -1,8 +1,8 @@
 // The first point of a pair from a release on. A slower task's points are all its releases; a faster task's are those
 // beside the releases of the slower one: the last at or before it for a writer, the first at or after it for a reader.
-use crate::releases::after_previous;
-use crate::releases::first_from;
-use crate::releases::last_to;
+use releases::after_previous;
+use releases::first_from;
+use releases::last_to;
 ghost use mathlib.Core.Path.{_≡_};
 ghost use Prim.Native.Nat.{_<_, _^_};
 ghost use Rattle.next_points.specs.Next.{publishingFrom, readingFrom};

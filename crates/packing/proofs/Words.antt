@@ -1,17 +1,13 @@
--- A word of 64 bits that was shifted to make room for a field: its bits are those that it had, and then the field's;
--- and its last 32 bits stored as four bytes. No contract cites this file. Assumes nothing.
-use Prim.Native.Nat.{ℕ, _+_, _-_, _*_, _/_, _%_, _^_, _<_, _≤_}
-use mathlib.Core.Path.{_≡_, refl, ap, _∙_}
-use mathlib.Core.List.{List, [], _∷_, _++_}
-use native.Mathlib.Nat.{add-zero, mul-mod-left, div-one}
-use native.Mathlib.Numerals.{towards-suc}
+-- A word of 64 bits that was shifted to make room for a field: its bits are those that it had, and then the field's. No
+-- contract cites this file. Assumes nothing.
+use Prim.Native.Nat.{ℕ, _+_, _-_, _*_, _%_, _^_, _<_, _≤_}
+use mathlib.Core.Path.{_≡_, ap, _∙_}
+use mathlib.Core.List.{_++_}
+use native.Mathlib.Nat.{add-zero, mul-mod-left}
 use native.Mathlib.Omega.{arith}
 use lib.Bits.{bitOr, or-shifted, or-zero-r}
-use lib.ListN.{set}
 use lib.Pow.{pow-pos, shl-shr, mod-pow-add}
-use lib.Seq.{sets}
-use Rattle.bits.specs.Packing.{bitsOf, bytesOf}
-use Rattle.bits.proofs.BytesOf.{bytes-one-more}
+use Rattle.bits.specs.Packing.{bitsOf}
 use Rattle.bits.proofs.WrittenParts.{written-low, written-joined}
 
 module _ (word filled width : ℕ) (fit : filled + width ≤ 64) where
@@ -37,25 +33,3 @@ module _ (word filled width : ℕ) (fit : filled + width ≤ 64) where
   -- zero bits behind the word
   pub filled-bits : bitsOf (filled + width) (word * 2 ^ width % 2 ^ 64) ≡ bitsOf filled word ++ bitsOf width 0
   filled-bits = rw (← or-zero-r (word * 2 ^ width % 2 ^ 64)) (joined-bits 0 (pow-pos width))
-
--- the last 32 bits as four bytes
-four-bytes : (v : ℕ)
-    → bytesOf 4 (bitsOf 32 v) ≡ (v / 16777216 % 256) ∷ (v / 65536 % 256) ∷ (v / 256 % 256) ∷ (v % 256) ∷ []
-unfolding bytesOf
-four-bytes v =
-    cc (
-      bytes-one-more 32 v 3 0 refl,
-      bytes-one-more 32 v 2 8 refl,
-      bytes-one-more 32 v 1 16 refl,
-      bytes-one-more 32 v 0 24 refl,
-      div-one v,
-    )
-
--- four bytes stored in one run
-pub four-stored : (held : List ℕ) (n v : ℕ)
-    → set
-    (set (set (set held n (v / 16777216 % 256)) (n + 1) (v / 65536 % 256)) (n + 2) (v / 256 % 256))
-    (n + 3)
-    (v % 256)
-    ≡ sets held n (bytesOf 4 (bitsOf 32 v))
-four-stored held n v = rw four-bytes (simp towards-suc)

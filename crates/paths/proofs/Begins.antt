@@ -18,11 +18,11 @@ use Rattle.following.specs.Following.{PassesOn}
 use Rattle.following.proofs.Backwards.{passed-rises}
 use Rattle.following.proofs.Ends.{end-from, tasks-timed, passed-at-soon}
 use Rattle.following.proofs.Starts.{published-released, last-is-start, by-start}
-use Rattle.paths.specs.declared.Walk.{Walk}
+use Rattle.path_sums.specs.declared.Walk.{Walk}
 use Rattle.paths.specs.Walks.{pathsBelow, starts, RightChain, SumsOfRound, Walks, firstWalk}
 use Rattle.paths.proofs.Inside.{zero-released, release-of-round}
 use Rattle.paths.proofs.Stretches.{Alike, paths-alike, release-rises}
-use Rattle.paths.proofs.SumsMore.{sums-none}
+use Rattle.path_sums.proofs.SumsMore.{sums-none}
 
 -- some of the periods
 pub fewer : {periods : List ℕ} {count : ℕ} → RightPeriods periods count → (n : ℕ) → n ≤ count → RightPeriods periods n

@@ -9,7 +9,7 @@ use Rattle.following.specs.Fours.{All}
 use Rattle.following.specs.declared.four.Four.{Four}
 use Rattle.following.proofs.Starts.{published-next}
 use Rattle.paths.specs.Walks.{Walking}
-use Rattle.paths.specs.declared.Walk.{Walk}
+use Rattle.path_sums.specs.declared.Walk.{Walk}
 use Rattle.paths.proofs.Turns.{published-again, passes-on, near, period-small}
 
 module _ (periods : List ℕ) {count at round : ℕ} {walk : Walk} (walking : Walking periods count at round walk) where

@@ -19,7 +19,7 @@ use Rattle.ages.proofs.Rising.{end-at-least}
 use Rattle.following.specs.Following.{chainBy, passed, tasksFrom}
 use Rattle.following.proofs.Ends.{chain-timed, passed-at-soon}
 use Rattle.following.proofs.Starts.{not-by}
-use Rattle.paths.specs.declared.Walk.{Walk}
+use Rattle.path_sums.specs.declared.Walk.{Walk}
 use Rattle.paths.specs.Walks.{Walking, starts, pathsBelow}
 use Rattle.paths.proofs.Stretches.{release-rises}
 

@@ -4,6 +4,5 @@ mod FourInstants
 mod Inside
 mod PathTurns
 mod Stretches
-mod SumsMore
 mod Takes
 mod Turns

@@ -12,11 +12,12 @@ use Rattle.times.proofs.Releases.{release-number}
 use Rattle.times.proofs.ReleaseNumbers.{release-next}
 use Rattle.ages.specs.Ages.{endOf, isBasic}
 use Rattle.following.specs.Following.{chainBy}
-use Rattle.paths.specs.declared.Walk.{Walk}
-use Rattle.paths.specs.Walks.{Sums, pathsBelow, withPath, movedTo, starts, Walks, Walking}
+use Rattle.path_sums.specs.declared.Walk.{Walk}
+use Rattle.path_sums.specs.Sums.{Sums, withPath, movedTo}
+use Rattle.paths.specs.Walks.{pathsBelow, starts, Walks, Walking}
 use Rattle.paths.proofs.Inside.{number-inside, number-below}
 use Rattle.paths.proofs.Stretches.{Alike, is-basic, paths-alike, paths-more, release-rises}
-use Rattle.paths.proofs.SumsMore.{sums-more}
+use Rattle.path_sums.proofs.SumsMore.{sums-more}
 use Rattle.paths.proofs.Turns.{nextInstant, nextStart, nextEnd, published-again, own-start, sums-moved}
 use Rattle.paths.proofs.Turns.{later-start, published-alike, next-ends, no-earlier}
 

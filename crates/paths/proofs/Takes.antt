@@ -5,8 +5,9 @@ use mathlib.Core.List.{List}
 use native.Mathlib.Omega.{arith}
 use lib.ListN.{getD}
 use Rattle.following.specs.Following.{lastStart, endFrom}
-use Rattle.paths.specs.declared.Walk.{Walk}
-use Rattle.paths.specs.Walks.{RightChain, withPath, movedTo, Walks, Walking, Taking, Taken}
+use Rattle.path_sums.specs.declared.Walk.{Walk}
+use Rattle.path_sums.specs.Sums.{withPath, movedTo}
+use Rattle.paths.specs.Walks.{RightChain, Walks, Walking, Taking, Taken}
 use Rattle.paths.proofs.PathTurns.{same-end, new-path}
 use Rattle.paths.proofs.Turns.{nextInstant, nextStart, nextEnd, period-small, no-start, path-fits}
 

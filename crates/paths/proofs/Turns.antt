@@ -13,8 +13,9 @@ use Rattle.ages.proofs.Rising.{end-rises}
 use Rattle.following.specs.Following.{chainBy, lastStart, endFrom, PublishedAt, PassesOn}
 use Rattle.following.proofs.Ends.{chain-timed, end-from, end-from-soon}
 use Rattle.following.proofs.Starts.{last-is-start, start-by, by-start, published-next, published-then}
-use Rattle.paths.specs.declared.Walk.{Walk}
-use Rattle.paths.specs.Walks.{Sums, movedTo, Walks, Walking}
+use Rattle.path_sums.specs.declared.Walk.{Walk}
+use Rattle.path_sums.specs.Sums.{Sums, movedTo}
+use Rattle.paths.specs.Walks.{Walks, Walking}
 use Rattle.paths.proofs.Inside.{instant-near, end-after, few-paths}
 use Rattle.paths.proofs.Stretches.{Alike}
 

@@ -1,54 +1,19 @@
 -- How far a chain was gone along, and what was counted on the way. No contract of a question cites this file. Assumes
 -- nothing.
-use Prim.Native.Nat.{ℕ, zero, suc, _+_, _-_, _/_, _<_, _≤_, _∣_, min, max}
+use Prim.Native.Nat.{ℕ, _+_, _/_, _<_, _≤_, _∣_, min}
 use mathlib.Core.Path.{_≡_}
-use mathlib.Core.List.{List, map}
-use lib.ListN.{length, getD}
+use mathlib.Core.List.{List}
+use lib.ListN.{getD}
 use Rattle.lists.specs.Lists.{eachBelow, onlyIf}
 use Rattle.times.specs.Releases.{release}
-use Rattle.ages.specs.Ages.{Chain, endOf, isBasic, lengthOf, ageOf, largest, least}
+use Rattle.ages.specs.Ages.{Chain, endOf, isBasic}
 use Rattle.following.specs.Following.{chainBy, passed, tasksFrom, lastStart, endFrom, RightPeriods, PublishedAt}
-use Rattle.paths.specs.declared.Walk.{Walk}
+use Rattle.path_sums.specs.Sums.{Sums}
+use Rattle.path_sums.specs.declared.Walk.{Walk}
 
 -- the basic paths among the first n starts
 unfoldable pub pathsBelow : Chain → ℕ → List ℕ
 pathsBelow chain n = eachBelow n (λ k. let t : ℕ = release (chain .first) k in onlyIf (isBasic chain t) t)
-
--- the least age, one more taken; the first is the least
-abbrev pub leastWith : (paths best age : ℕ) → ℕ
-leastWith zero best age = age
-leastWith (suc more) best age = min best age
-
--- these paths were counted: how many, the longest length, the worst and the best age
-pub record Sums (chain : Chain) (found : List ℕ) (walk : Walk) : Type 0 where
-  pub paths : walk .paths ≡ length found
-  pub longest : walk .longest ≡ largest (map (lengthOf chain) found)
-  pub worst : walk .worst ≡ largest (map (ageOf chain) found)
-  pub best : walk .best ≡ least (map (ageOf chain) found)
-
--- the walk with one path more: the one that starts and ends where the walk has come to, the next start having that end
-abbrev pub withPath : Walk → (period next : ℕ) → Walk
-withPath walk period next = record {
-  instant = walk .instant;
-  start = walk .start;
-  end = walk .end;
-  paths = walk .paths + 1;
-  longest = max (walk .longest) (walk .end - walk .start);
-  worst = max (walk .worst) (period + next - walk .start);
-  best = leastWith (walk .paths) (walk .best) (period + next - walk .start);
-}
-
--- the walk that has come to another start, with the same sums
-abbrev pub movedTo : Walk → (instant start end : ℕ) → Walk
-movedTo walk instant start end = record {
-  instant = instant;
-  start = start;
-  end = end;
-  paths = walk .paths;
-  longest = walk .longest;
-  worst = walk .worst;
-  best = walk .best;
-}
 
 -- a chain of a table, and a round of it
 pub record RightChain (periods : List ℕ) (count round : ℕ) : Type 0 where

@@ -6,27 +6,14 @@ ghost use Rattle.quotients.specs.Inverses.{InversesOf};
 ghost use Rattle.paths.specs.Walks.{RightChain, SumsOfRound, firstWalk};
 
 mod steps;
-mod sums;
 
 use following::end_from;
 use following::four::Four;
 use following::last_start;
 use following::passed_on;
+use path_sums::Walk;
 use quotients::inverses_of;
 use steps::step;
-
-// How far a chain was gone along: an instant at which a task of it publishes, the last start that it has published by
-// then, and that start's end; and of the basic paths before that start how many there are, the longest length, the worst
-// age and the best.
-pub struct Walk {
-    pub instant: u32,
-    pub start: u32,
-    pub end: u32,
-    pub paths: u32,
-    pub longest: u32,
-    pub worst: u32,
-    pub best: u32,
-}
 
 // The task with the longest period. The walk is right along any task, and shortest along this one.
 fn slowest(periods: &[u32; 32], count: usize) -> usize
@@ -82,9 +69,9 @@ pub fn count_paths(periods: &[u32; 32], count: usize, round: u32) -> Walk
     ensures { λ r. ⌜ SumsOfRound (now (periods .entry)) count round r ⌝ }
 {
     let at = slowest(periods, count);
-    let inverses = inverses_of(periods, count);
-    let factors = inverses.factors;
-    let shifts = inverses.shifts;
+    let mut factors = [0u32; 32];
+    let mut shifts = [0u32; 32];
+    inverses_of(periods, count, &mut factors, &mut shifts);
     let mut walk = begun(periods, &factors, &shifts, at, count);
     while walk.start < round {
         walk = step(periods, &factors, &shifts, at, count, round, walk);

@@ -2,12 +2,12 @@
 ghost use Prim.Native.Nat.{ℕ, _<_};
 ghost use Rattle.quotients.specs.Inverses.{InversesOf};
 ghost use Rattle.paths.specs.Walks.{Walks, Walking, Taking, Taken};
-use crate::Walk;
-use crate::sums::moved_to;
-use crate::sums::with_path;
 use following::end_from;
 use following::four::Four;
 use following::last_start;
+use path_sums::Walk;
+use path_sums::moved_to;
+use path_sums::with_path;
 
 // What the task publishes next, at `instant`: the last start that it has then published, and that start's end. The starts
 // after the one that the walk has come to have all the same end; so that one is a basic path where it ends earlier, and

@@ -1,4 +1,3 @@
 -- Definitions of this crate.
-pub mod FirstLine
 pub mod Printed
 pub mod Words

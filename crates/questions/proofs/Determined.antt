@@ -11,12 +11,12 @@ use Rattle.outcomes.proofs.Outcomes.{same-given, gives-no-refusal, refusal-hand
 use Rattle.table.proofs.Refusals.{same-refused}
 use Rattle.questions.specs.Questions.{points, listing, bytesListed, lentAfter, ages}
 use Rattle.questions.specs.Answers.{saidOfPoints, saidOfListing, saidOfAges}
-use Rattle.questions.specs.declared.PointsAnswer.{PointsAnswer}
-use Rattle.questions.specs.declared.PointsAnswer.the-variants as of-points
+use Rattle.pair_points.specs.declared.PointsAnswer.{PointsAnswer}
+use Rattle.pair_points.specs.declared.PointsAnswer.the-variants as of-points
 use Rattle.questions.specs.declared.ListingAnswer.{ListingAnswer}
 use Rattle.questions.specs.declared.ListingAnswer.the-variants as of-listing
-use Rattle.questions.specs.declared.AgesAnswer.{AgesAnswer}
-use Rattle.questions.specs.declared.AgesAnswer.the-variants as of-ages
+use Rattle.aged_chains.specs.declared.AgesAnswer.{AgesAnswer}
+use Rattle.aged_chains.specs.declared.AgesAnswer.the-variants as of-ages
 
 -- two answers that say the same are the same
 pub same-points : (a b : PointsAnswer) → saidOfPoints a ≡ saidOfPoints b → a ≡ b

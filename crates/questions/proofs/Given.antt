@@ -5,11 +5,11 @@ use mathlib.Core.Path.{_≡_, sym}
 use mathlib.Core.List.{List}
 use lib.Dec.{leb, ltb}
 use lib.ListN.{length}
-use Rattle.outcomes.specs.Outcome.{Outcome, gives}
+use Rattle.outcomes.specs.Outcome.{Outcome, gives, refusedUnless}
 use Rattle.outcomes.proofs.Outcomes.{same-given, gives-no-refusal}
 use Rattle.table.specs.Image.{Whole, readImage}
 use Rattle.copies.specs.Listing.{listingOf}
-use Rattle.questions.specs.Questions.{refusedUnless, coreListed, listing}
+use Rattle.questions.specs.Questions.{coreListed, listing}
 
 -- what is given was not refused before
 past : {A : Type 0} (number : ℕ) (right : Bool) {rest : Outcome A} {a : A} → refusedUnless number right rest ≡ gives a

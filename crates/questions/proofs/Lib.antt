@@ -1,9 +1,8 @@
 -- Laws and theorems of this crate.
-pub mod Asked
-mod AskedRows
-mod ChainAged
+mod AcceptedRight
+mod AskedArrays
+mod AskedChain
+mod ChainShown
 mod CoreListed
 pub mod Determined
 pub mod Given
-pub mod Joined
-pub mod PointsOf

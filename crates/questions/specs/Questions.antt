@@ -2,37 +2,19 @@
 -- itself; a refused image gets the same refusal whichever question is asked." Of Numbers that say no the rows 11 to
 -- 13, each at place 0 and in the order 12, 13, 11. Any image and any numbers may be asked. Assumes nothing.
 use Prim.Native.Nat.{ℕ}
-use mathlib.Core.Bool.{Bool, cond, _&&_}
 use mathlib.Core.List.{List, _++_}
 use lib.Dec.{leb, ltb}
 use lib.ListN.{length, drop}
-use Rattle.times.specs.Points.{publishing, reading}
-use Rattle.outcomes.specs.Outcome.{Outcome, gives, refuses, askedOf}
-use Rattle.table.specs.Table.{Rows, timingOf, joins}
+use Rattle.outcomes.specs.Outcome.{Outcome, gives, refuses, askedOf, refusedUnless}
+use Rattle.table.specs.Table.{Rows}
 use Rattle.table.specs.Image.{readImage}
 use Rattle.table.specs.declared.Table.{Table}
 use Rattle.copies.specs.Listing.{listingOf}
 use Rattle.ages.specs.Ages.{Ages, agesOfChain}
-
--- a row of the numbers that say no: refused by its number, at place 0, unless this holds; then what follows
-abbrev pub refusedUnless : {A : Type 0} → (number : ℕ) → (right : Bool) → Outcome A → Outcome A
-refusedUnless number right rest = cond right rest (refuses number 0)
-
--- the points of a pair: P(n) and Q(n)
-pub record Points : Type 0 where
-  pub publishing : ℕ
-  pub reading : ℕ
-
--- 12: "asked .. task not in the table, or n above 1,000,000"; 13: "no label goes from the asked writer to the asked
--- reader"
-unfoldable pub pointsOf : (table : Table) (writer reader n : ℕ) → Outcome Points
-pointsOf table writer reader n =
-    refusedUnless 12 (ltb writer (table .tasks) && ltb reader (table .tasks) && leb n 1000000)
-    (refusedUnless 13 (joins table writer reader)
-    (gives (record {
-      publishing = publishing (timingOf table writer) (timingOf table reader) n;
-      reading = reading (timingOf table writer) (timingOf table reader) n;
-    })))
+-- passed on from crates/pair_points, specs/PairPoints.antt: the points of a pair, asked of a table (12, then 13, then P(n)
+-- and Q(n))
+pub use Rattle.pair_points.specs.PairPoints.{Points}
+unfoldable pub use Rattle.pair_points.specs.PairPoints.{pointsOf}
 
 -- the points of a pair, asked of the image: its own refusal first
 unfoldable pub points : (image : List ℕ) (writer reader n : ℕ) → Outcome Points

@@ -1,56 +1,57 @@
-// The listing of a core, asked of a table: first 12, then 11 (document 01, Numbers that say no), both known before a byte
-// is written.
+// The listing of a core, asked of the arrays of a table: first 12, then 11 (document 01, Numbers that say no), both known
+// before a byte is written.
 ghost use mathlib.Core.Path.{_≡_};
-ghost use Prim.Native.Nat.{_≤_};
-ghost use lib.ListN.{length, take};
-ghost use Rattle.times.specs.Hyperperiod.{lcmOf};
-ghost use Rattle.frames.specs.Counts.{Right};
-ghost use Rattle.questions.specs.Answers.{saidOfListing};
-ghost use Rattle.questions.specs.Questions.{coreListed, bytesListed, lentAfter};
+ghost use Rattle.table.specs.declared.Table.{Table};
+ghost use Rattle.counted_listings.specs.Listed.{Lists};
+ghost use Rattle.questions.specs.Parts.{Answered};
 use crate::ListingAnswer;
-use frames::measure;
-use framing::write_listing;
+use core_listings::list_core;
 use table::Refusal;
-use table::Table;
-use times::rounds::Round;
-use times::rounds::hyperperiod;
 
-// The hyperperiod, where it is within its limit.
-pub(crate) fn round_of(period: [u32; 32], tasks: usize) -> u32
-    ensures { λ r. ⌜ (lcmOf (take tasks period) ≤ 1000000 → r ≡ lcmOf (take tasks period)) ⌝ }
+// The listing of core `core` of a right table that has `count` cores: 12 comes before 11.
+pub(crate) fn core_listed(
+    core: u64,
+    count: usize,
+    tasks: usize,
+    labels: usize,
+    round: u32,
+    writer: &[u32; 64],
+    readers: &[u32; 64],
+    cores: &[u32; 32],
+    periods: &[u32; 32],
+    buffer: &mut [u8],
+) -> ListingAnswer
+    requires { ⌜ ((table : Table) × (count ≡ table .cores)
+        × Lists table tasks labels round (now writer) (now readers) (now cores) (now periods)) ⌝ }
+    ensures { λ r. ⌜ ((table : Table) → count ≡ table .cores
+        → Lists table tasks labels round (now (writer .entry)) (now (readers .entry)) (now (cores .entry))
+        (now (periods .entry))
+        → Answered table core (now (buffer .entry)) r (now (buffer .exit))) ⌝ }
 {
-    let round = hyperperiod(period, tasks);
-    let Round::Within(ticks) = round else {
-        return 0;
-    };
-    ticks
-}
-
-// The listing of core `core` of a right table: 12 comes before 11.
-pub(crate) fn core_listed(table: Table, core: u64, buffer: &mut [u8]) -> ListingAnswer
-    requires { ⌜ Right table ⌝ }
-    ensures said { λ r. ⌜ saidOfListing r ≡ bytesListed (coreListed table core (length (now (buffer .entry)))) ⌝ }
-    ensures lent { λ r. ⌜ now (buffer .exit)
-        ≡ lentAfter (coreListed table core (length (now (buffer .entry)))) (now (buffer .entry)) ⌝ }
-{
-    if table.cores as u64 <= core {
+    if count as u64 <= core {
         return ListingAnswer::Refused {
             refusal: Refusal::Asked,
             place: 0,
         };
     }
-    let number = core as u32;
-    let period = table.period;
-    let round = round_of(period, table.tasks);
-    let measured = measure(table, number, round);
-    let frames = measured.frames;
-    let bits = 43 + 32 * (frames as u64) + 12 * measured.copies;
-    if (buffer.len() as u64) < (bits + 7) / 8 {
-        return ListingAnswer::Refused {
-            refusal: Refusal::Room,
-            place: 0,
+    let filled = list_core(
+        core as u32,
+        tasks,
+        labels,
+        round,
+        writer,
+        readers,
+        cores,
+        periods,
+        buffer,
+    );
+    if filled.fits {
+        return ListingAnswer::Listed {
+            bytes: filled.bytes,
         };
     }
-    let bytes = write_listing(table, number, round, frames, buffer);
-    ListingAnswer::Listed { bytes }
+    ListingAnswer::Refused {
+        refusal: Refusal::Room,
+        place: 0,
+    }
 }

@@ -5,41 +5,21 @@ ghost use lib.ListN.{length};
 ghost use Rattle.questions.specs.Answers.{saidOfAges, saidOfListing, saidOfPoints};
 ghost use Rattle.questions.specs.Questions.{ages, bytesListed, lentAfter, listing, points};
 
-mod chain_ages;
 mod cores;
-mod pairs;
 
-use chain_ages::ages_of;
+pub use aged_chains::AgesAnswer;
+use aged_chains::ages_of;
 use cores::core_listed;
-use pairs::points_of;
+use image_arrays::read_arrays;
+pub use pair_points::PointsAnswer;
+use pair_points::points_of;
 use table::Answer;
 use table::Refusal;
-
-// The points of a pair of tasks.
-pub enum PointsAnswer {
-    Points { publishing: u64, reading: u64 },
-    Refused { refusal: Refusal, place: usize },
-}
 
 // The copy listing of a core: how many bytes of the lent buffer it fills.
 pub enum ListingAnswer {
     Listed { bytes: usize },
     Refused { refusal: Refusal, place: usize },
-}
-
-// The ages of a chain.
-pub enum AgesAnswer {
-    Ages {
-        paths: u32,
-        longest: u32,
-        worst: u32,
-        best: u32,
-        jitter: u32,
-    },
-    Refused {
-        refusal: Refusal,
-        place: usize,
-    },
 }
 
 // The points P(n) and Q(n) of a writer and a reader, asked of any bytes and any numbers. The image's own refusal is
@@ -64,11 +44,25 @@ pub fn listing(image: &[u8], core: u64, buffer: &mut [u8]) -> ListingAnswer
     ensures lent { λ r. ⌜ now (buffer .exit)
         ≡ lentAfter (listing (now (image .entry)) core (length (now (buffer .entry)))) (now (buffer .entry)) ⌝ }
 {
-    let read = images::read_table(image);
+    let mut cores = [0u32; 32];
+    let mut periods = [0u32; 32];
+    let mut writer = [0u32; 64];
+    let mut readers = [0u32; 64];
+    let read = read_arrays(image, &mut cores, &mut periods, &mut writer, &mut readers);
     let answer = read.answer;
     let Answer::Refused { refusal, place } = answer else {
-        let table = read.table;
-        return core_listed(table, core, buffer);
+        return core_listed(
+            core,
+            read.cores,
+            read.tasks,
+            read.labels,
+            read.round,
+            &writer,
+            &readers,
+            &cores,
+            &periods,
+            buffer,
+        );
     };
     ListingAnswer::Refused { refusal, place }
 }
@@ -77,12 +71,11 @@ pub fn listing(image: &[u8], core: u64, buffer: &mut [u8]) -> ListingAnswer
 pub fn ages(image: &[u8], chain: u64) -> AgesAnswer
     ensures { λ r. ⌜ saidOfAges r ≡ ages (now (image .entry)) chain ⌝ }
 {
-    let mut rows = [[0u32; 8]; 16];
-    let read = images::read_whole(image, &mut rows);
+    let mut periods = [0u32; 32];
+    let read = image_chains::read_periods(image, chain, &mut periods);
     let answer = read.answer;
     let Answer::Refused { refusal, place } = answer else {
-        let table = read.table;
-        return ages_of(table, rows, chain);
+        return ages_of(&periods, read.count);
     };
     AgesAnswer::Refused { refusal, place }
 }

@@ -1,19 +1,13 @@
 // Division by a number that stays the same, as a product and a shift: of a number below 2^25, by one up to 1,000,000.
 ghost use mathlib.Core.Path.{_≡_};
 ghost use Prim.Native.Nat.{ℕ, _*_, _/_, _^_, _<_, _≤_};
-ghost use lib.ListN.{getD};
+ghost use lib.ListN.{getD, length};
 ghost use Rattle.quotients.specs.Inverses.{InverseOf, InversesOf};
 
 // What stands for a divisor.
 pub struct Inverse {
     pub factor: u32,
     pub shift: u32,
-}
-
-// What stands for each of some divisors.
-pub struct Inverses {
-    pub factors: [u32; 32],
-    pub shifts: [u32; 32],
 }
 
 // The factor is 2^shift divided by the divisor, and one more: at least 2^25, and below 2^32. Three shifts are enough.
@@ -49,13 +43,16 @@ pub fn quotient(n: u32, factor: u32, shift: u32) -> u32
 }
 
 // What stands for each of the first divisors: once, before there is much to divide.
-pub fn inverses_of(divisors: &[u32; 32], count: usize) -> Inverses
-    requires { ⌜ (count ≤ 32)
+pub fn inverses_of(
+    divisors: &[u32; 32],
+    count: usize,
+    factors: &mut [u32; 32],
+    shifts: &mut [u32; 32],
+)
+    requires { ⌜ (count ≤ 32) × (count ≤ length (now factors)) × (count ≤ length (now shifts))
         × ((i : ℕ) → i < count → (0 < getD (now divisors) i 0) × (getD (now divisors) i 0 ≤ 1000000)) ⌝ }
-    ensures { λ r. ⌜ InversesOf (now (divisors .entry)) (r .factors) (r .shifts) count ⌝ }
+    ensures { λ r. ⌜ InversesOf (now (divisors .entry)) (now (factors .exit)) (now (shifts .exit)) count ⌝ }
 {
-    let mut factors = [0u32; 32];
-    let mut shifts = [0u32; 32];
     let mut i: usize = 0;
     while i < count {
         let inverse = inverse_of(divisors[i]);
@@ -63,5 +60,4 @@ pub fn inverses_of(divisors: &[u32; 32], count: usize) -> Inverses
         shifts[i] = inverse.shift;
         i += 1;
     }
-    Inverses { factors, shifts }
 }

@@ -5,55 +5,47 @@
 //
 // where the question is `image` (no number), `points` (writer, reader, n), `listing` (core, how many bytes are lent),
 // `ages` (chain) or `directly` (two periods and n, and no image), and the image stands in hexadecimal. A line that begins
-// with # is a remark. Of each case the name is printed, a colon, and what the proved libraries answer. The file `stdout` has what
-// document 01 says.
-use answers::answer;
+// with # is a remark. Of each case the name is printed, a colon, and what the proved libraries answer. The file `stdout`
+// has what document 01 says.
+use answers::ask_ages;
+use answers::ask_directly;
+use answers::ask_image;
+use answers::ask_points;
+use case_lines::case_at;
+use case_lines::passed_over;
+use case_words::Question;
 use libc::STDIN_FILENO;
-use libc::STDOUT_FILENO;
-use lines::images::bytes_at;
-use lines::numbers::numbers_at;
-use lines::words::Question;
-use lines::words::asked_by;
-use lines::words::question_of;
+use lines::numbers::Numbers;
+use listing_answers::ask_listing;
 use telling::complain;
+use telling::end_line;
+use telling::tell_name;
 
-// A question whose numbers start at a place of a line; its image ends with the line.
-fn ask_with(line: &[u8], at: usize, question: Question) {
-    let numbers = numbers_at(line, at, asked_by(question));
-    let mut image = [0u8; 512];
-    let read = bytes_at(line, numbers.end, &mut image);
-    if read.end == line.len() {
-        let count = read.count;
-        answer(question, numbers, &image[0..count]);
-        return;
+// The answer to a question.
+fn answer(question: Question, numbers: Numbers, image: &[u8]) {
+    match question {
+        Question::Image => ask_image(image),
+        Question::Points => ask_points(image, numbers.first, numbers.second, numbers.third),
+        Question::Listing => ask_listing(image, numbers.first, numbers.second),
+        Question::Ages => ask_ages(image, numbers.first),
+        Question::Directly => ask_directly(numbers.first, numbers.second, numbers.third),
+        Question::Unknown => complain(),
     }
-    complain();
-}
-
-// A question that starts at a place of a line.
-fn ask(line: &[u8], start: usize) {
-    if start < line.len() {
-        let end = bytes::scan::find(line, start + 1, line.len(), b' ');
-        let question = question_of(&line[start..end]);
-        ask_with(line, end, question);
-        return;
-    }
-    complain();
 }
 
 // A case is answered on a line of its own; a remark is passed over.
 fn run_line(line: &[u8]) {
-    if line.len() == 0 {
+    if passed_over(line) {
         return;
     }
-    if line[0] == b'#' {
-        return;
-    }
-    let colon = bytes::scan::find(line, 0, line.len(), b':');
-    io::write_all(STDOUT_FILENO, &line[0..colon]);
-    io::write_all(STDOUT_FILENO, b":");
-    ask(line, colon + 1);
-    io::write_all(STDOUT_FILENO, b"\n");
+    let start = tell_name(line);
+    let mut image = [0u8; 512];
+    let case = case_at(line, start, &mut image);
+    let question = case.question;
+    let numbers = case.numbers;
+    let count = case.count;
+    answer(question, numbers, &image[0..count]);
+    end_line();
 }
 
 fn run_lines(text: &[u8]) {

@@ -5,7 +5,7 @@ ghost use lib.ListN.{length};
 ghost use Rattle.lists.specs.Lists.{someBelow};
 ghost use Rattle.copies.specs.Listing.{listingOf};
 ghost use Rattle.frames.specs.Counts.{RightRound};
-use frames::measure;
+use measuring::measure;
 use table::Table;
 
 // The listing of a core of a table needs more than 65,536 bytes, which are 524,288 bits.

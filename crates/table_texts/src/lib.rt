@@ -12,8 +12,8 @@ ghost use Rattle.texts.specs.Puts.{PutsText};
 pub mod lengths;
 
 use core_texts::put_core_text;
+use line_texts::put_hyperperiod;
 use table::Table;
-use texts::lines::put_hyperperiod;
 
 // The texts of all cores, one after the other. A table has no more than 8.
 fn put_cores(bytes: &mut [u8], at: usize, table: Table, round: u32) -> usize

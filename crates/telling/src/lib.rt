@@ -9,6 +9,19 @@ pub fn tell(number: u64) {
     io::print_decimal(STDOUT_FILENO, number);
 }
 
+// The name of a case, as far as its colon, and a colon; the place after it.
+pub fn tell_name(line: &[u8]) -> usize {
+    let colon = bytes::scan::find(line, 0, line.len(), b':');
+    io::write_all(STDOUT_FILENO, &line[0..colon]);
+    io::write_all(STDOUT_FILENO, b":");
+    colon + 1
+}
+
+// The end of a case's line.
+pub fn end_line() {
+    io::write_all(STDOUT_FILENO, b"\n");
+}
+
 // What is told of a line that is no case.
 pub fn complain() {
     io::write_all(STDOUT_FILENO, b" not understood");

@@ -1,7 +1,8 @@
 -- DEMAND 1. Any string of bytes gets a table or one numbered refusal with its place, in document 01's order, and the
 -- reader always ends. No entry point expects a checked caller. A refusal writes nothing into a lent buffer.
 -- To be read before: outcomes/specs/Outcome, bits/specs/Bits and Found, taking/specs/Reading, table/specs/Table,
--- Refusals, Image and Shown, images/specs/TableShown, questions/specs/Questions, capi/specs/Said (all under crates/).
+-- Refusals, Image and Shown, images/specs/TableShown, pair_points/specs/PairPoints, questions/specs/Questions,
+-- c_answers/specs/Said (all under crates/).
 -- Of a function, `statement M` is the text that the toolchain makes of its contract: on the language's machine, with
 -- any ghost state of type M, a call ends, does nothing undefined, and returns an r of which the `ensures` holds; it is
 -- quoted here. Assumes nothing.

@@ -3,9 +3,9 @@
 -- determine every answer for every input.
 -- To be read before, besides what demand 1 names: lists/specs/Lists, times/specs/Releases, Hyperperiod, Rounds and
 -- Points, table/specs/Rules, bits/specs/Packing, writing/specs/Written, copies/specs/Copies and Listing,
--- ages/specs/Ages, questions/specs/Answers, listings/specs/FromBytes and Fits, printing/specs/FirstLine, Words and
--- Printed, cases/specs (all under crates/). How a contract is quoted: Demand1.antt. What holds of the ages of a chain:
--- Demand2Ages.antt. Assumes nothing.
+-- ages/specs/Ages, questions/specs/Answers, listings/specs/FromBytes and Fits, first_line/specs/FirstLine,
+-- printing/specs/Words and Printed, cases/specs (all under crates/). How a contract is quoted: Demand1.antt. What holds
+-- of the ages of a chain: Demand2Ages.antt. Assumes nothing.
 use Prim.Native.Nat.{ℕ, _%_, _≤_, _<_, _∣_}
 use mathlib.Core.Path.{_≡_}
 use mathlib.Core.Bool.{true}
@@ -27,16 +27,16 @@ use Rattle.listings.specs.FromBytes.{listingIn}
 use Rattle.listings.proofs.NumbersFit.{listing-taken-back}
 use Rattle.questions.specs.Questions.{points, listing, bytesListed, lentAfter, ages}
 use Rattle.questions.specs.Answers.{saidOfPoints, saidOfListing, saidOfAges}
-use Rattle.questions.specs.declared.AgesAnswer.{AgesAnswer}
+use Rattle.aged_chains.specs.declared.AgesAnswer.{AgesAnswer}
 use Rattle.questions.specs.declared.ListingAnswer.{ListingAnswer}
-use Rattle.questions.specs.declared.PointsAnswer.{PointsAnswer}
+use Rattle.pair_points.specs.declared.PointsAnswer.{PointsAnswer}
 use Rattle.questions.proofs.listing.Met as asked-listing-met
 use Rattle.questions.proofs.listing.Statement as asked-listing
 use Rattle.questions.proofs.points.Met as asked-points-met
 use Rattle.questions.proofs.points.Statement as asked-points
 use Rattle.questions.proofs.Determined.{points-determined, listing-determined, ages-determined}
-use Rattle.printing.proofs.hyperperiod.Met as hyperperiod-met
-use Rattle.printing.proofs.hyperperiod.Statement as asked-hyperperiod
+use Rattle.first_line.proofs.hyperperiod.Met as hyperperiod-met
+use Rattle.first_line.proofs.hyperperiod.Statement as asked-hyperperiod
 use Rattle.cases.specs.Kinds.{AllHold}
 use Rattle.cases.specs.Starred.{starred}
 use Rattle.cases.specs.Further.{further}
@@ -63,7 +63,7 @@ pub every-right-table-is-accepted : (image : List ℕ) (whole : Whole)
 every-right-table-is-accepted = all-right-accepted
 
 -- The hyperperiod is the least common multiple: every period divides it, and it is the least number above 0 that all
--- divide. Asked of any bytes it is answered as the definition says (crates/printing, src/lib.rt):
+-- divide. Asked of any bytes it is answered as the definition says (crates/first_line, src/lib.rt):
 --     saidOfHyperperiod r ≡ hyperperiod image
 pub hyperperiod-is-multiple : (periods : List ℕ) → Each (λ p. p ∣ lcmOf periods) periods
 hyperperiod-is-multiple = period-divides-hyperperiod

@@ -10,7 +10,7 @@ pub mod PointTests
 pub mod PointsCover
 pub mod PointsInRound
 pub mod PointsRepeat
-mod Products
+pub mod Products
 pub mod PublishingTest
 pub mod ReadingTest
 pub mod ReleaseNumbers

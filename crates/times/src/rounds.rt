@@ -1,8 +1,8 @@
 // The length of a round, the hyperperiod H. Document 01: "the least common multiple of the periods of all tasks, at
 // most 1,000,000".
 use crate::divisors::lcm_up_to_limit;
+use lists::held;
 ghost use mathlib.Core.Path.{_≡_};
-ghost use Prim.Native.Nat.{min};
 ghost use lib.ListN.{take};
 ghost use Rattle.times.specs.Hyperperiod.{lcmOf};
 ghost use Rattle.times.specs.Rounds.{withinLimit, saidOfRound};
@@ -13,20 +13,13 @@ pub enum Round {
     Above,
 }
 
-// A count of tasks, of which an array of 32 holds no more than 32.
-fn counted(tasks: usize) -> usize
-    ensures { λ r. ⌜ r ≡ min tasks 32 ⌝ }
-{
-    if tasks < 32 { tasks } else { 32 }
-}
-
 // The hyperperiod of the first `tasks` periods, whatever they are. With a period of 0 among them it is 0, which is
 // within the limit; a table has none (document 01: refusal 5). The running value stays at 1,000,001 once it is larger,
 // since the least common multiple with a period above 0 only grows, and with a period of 0 it is 0.
 pub fn hyperperiod(period: [u32; 32], tasks: usize) -> Round
     ensures { λ r. ⌜ saidOfRound r ≡ withinLimit (lcmOf (take tasks period)) ⌝ }
 {
-    let count = counted(tasks);
+    let count = held(tasks, 32);
     let mut running: u32 = 1;
     let mut i = 0;
     while i < count {

@@ -9,29 +9,24 @@ use lib.ListN.{length, take}
 use borrow.Author.Tests.{lt-ltb}
 use Rattle.lists.specs.Lists.{someBelow, eachBelow}
 use Rattle.outcomes.specs.Outcome.{gives, refuses, askedOf}
-use Rattle.outcomes.proofs.Outcomes.{same-given, gives-no-refusal, something-given}
+use Rattle.outcomes.proofs.Outcomes.{same-given, gives-no-refusal}
 use Rattle.times.specs.Hyperperiod.{lcmOf}
 use Rattle.times.specs.Rounds.{withinLimit, saidOfRound}
 use Rattle.times.specs.declared.rounds.Round.{Round}
 use Rattle.times.specs.declared.rounds.Round.the-variants.{Within, Above}
 use Rattle.table.specs.Image.{Whole, readImage}
-use Rattle.table.specs.Refusals.{saidOfImage}
-use Rattle.table.specs.Shown.{answerOf, nothing, acceptedOr, shownOf}
-use Rattle.table.specs.declared.Answer.the-variants.{Accepted}
 use Rattle.table.specs.Table.{hyperperiodOf}
 use Rattle.table.specs.declared.Refusal.{Refusal}
 use Rattle.table.specs.declared.Table.{Table}
 use Rattle.table.proofs.Accepted.{accepted-sound, accepted-within}
 use Rattle.table.proofs.MeetsRules.{accepted-meets-rules}
-use Rattle.images.specs.TableShown.{TableShown}
-use Rattle.images.specs.declared.TableRead.{TableRead}
 use Rattle.copies.specs.Listing.{coreListing, listingOf}
 use Rattle.frames.specs.Counts.{RightRound}
 use Rattle.ages.specs.Ages.{agesOfChain}
 use Rattle.questions.specs.Answers.{saidOfAges}
 use Rattle.questions.specs.Questions.{ages}
-use Rattle.questions.specs.declared.AgesAnswer.{AgesAnswer}
-use Rattle.questions.specs.declared.AgesAnswer.the-variants.{Ages, Refused}
+use Rattle.aged_chains.specs.declared.AgesAnswer.{AgesAnswer}
+use Rattle.aged_chains.specs.declared.AgesAnswer.the-variants.{Ages, Refused}
 use Rattle.printing.specs.Printed.{coreText, chainText, wholeText, printable, textOf, printed}
 use Rattle.printing.specs.Words.{hyperperiodWord, named, newline}
 use Rattle.texts.specs.Puts.{PutsText}
@@ -102,14 +97,6 @@ pub of-refused : (image : List ℕ) {number place : ℕ} → askedOf (readImage 
     → printed image ≡ textOf (refuses number place)
 unfolding printed
 of-refused image refused = ap textOf refused
-
--- the image is accepted, and its table was read
-pub shown-whole : (image : List ℕ) (read : TableRead) → TableShown image read → read .answer ≡ Accepted
-    → (whole : Whole) × (readImage image ≡ gives whole) × (read .table ≡ whole .table)
-unfolding answerOf shownOf acceptedOr
-shown-whole image read shown told =
-    let (whole, given) = something-given (readImage image) (sym (shown .answer) ∙ ap saidOfImage told) in
-    (whole, given, shown .table ∙ ap (λ outcome. acceptedOr nothing outcome .table) given)
 
 -- a chain of an accepted image, asked for its ages
 module _ (image : List ℕ) (whole : Whole) (accepted : readImage image ≡ gives whole) (chain : ℕ)

@@ -7,8 +7,8 @@ ghost use Rattle.table.specs.Image.{Whole, readImage};
 ghost use Rattle.ages.specs.Ages.{agesOfChain};
 ghost use Rattle.printing.specs.Printed.{chainText};
 ghost use Rattle.texts.specs.Puts.{PutsText};
+use line_texts::put_chain;
 use questions::AgesAnswer;
-use texts::lines::put_chain;
 
 // The line of one chain.
 fn put_asked(bytes: &mut [u8], at: usize, image: &[u8], chain: u32) -> usize

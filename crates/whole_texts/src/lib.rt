@@ -10,12 +10,12 @@ ghost use Rattle.texts.specs.Puts.{PutsText};
 mod chain_lines;
 
 use chain_lines::put_chains;
+use line_texts::put_refusal;
 use table::Answer;
 use table::Table;
 use table::number_of;
 use table_texts::lengths::some_too_long;
 use table_texts::put_first_part;
-use texts::lines::put_refusal;
 use times::rounds::Round;
 
 // Room for every text: what is printed of an accepted image is no longer than 2,447,876 bytes (proofs/Lengths.antt).

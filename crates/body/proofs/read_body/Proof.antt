@@ -4,7 +4,7 @@ use mathlib.Core.Path.{ap, _∙_}
 use native.Mathlib.Omega.{arith}
 use borrow.Author.Needs.{needs}
 use Rattle.table.proofs.FieldRules.{Counts}
-use Rattle.body.specs.Parts.{headOf}
+use Rattle.image_parts.specs.Parts.{headOf}
 use Rattle.body.proofs.InTurn.{head-refused, counts-read, tasks-refused, body-read, body-refused}
 use Rattle.body.proofs.read_body.Statement.{statement}
 use Rattle.body.proofs.read_body.Tie as tie

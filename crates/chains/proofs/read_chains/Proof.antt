@@ -6,9 +6,9 @@ use mathlib.Core.List.{[]}
 use native.Mathlib.Omega.{arith}
 use Rattle.table.specs.declared.Table.{Table}
 use Rattle.fields.proofs.Steps.{taken, not-taken}
-use Rattle.chains.specs.Linked.{Searched, InEachLabelled}
+use Rattle.chain_steps.specs.Linked.{Searched, InEachLabelled}
 use Rattle.chains.proofs.ChainRows.{ChainsPassed, no-chain-passed, chain-passed, chains-refused, chains-whole}
-use Rattle.chains.proofs.LabelSearch.{as-it-is, with-links}
+use Rattle.chain_steps.proofs.LabelSearch.{as-it-is, with-links}
 use Rattle.chains.proofs.read_chains.Statement.{statement}
 use Rattle.chains.proofs.read_chains.Tie as tie
 
@@ -28,7 +28,7 @@ searched : (c : tie.After-link Inv-loop μ-loop)
     InEachLabelled (args .tasks) (min (args .labels) 64) (args .writer .now) (args .readers .now)
     (Searched (args .tasks) (args .readers .now) (c .link .last .1 .1 .0) (c .link .last .1 .1 .1 .0))
 searched c table given =
-    with-links given (rw (c .before .before .before .counted2 .ensures) at (c .link .ensures .0))
+    with-links given (rw (c .before .before .before .held2 .ensures) at (c .link .ensures .0))
 
 -- one such table, for what holds in each of them and does not speak of tables: no place and no length is large
 abbrev one : (c : tie.After-link Inv-loop μ-loop) → Table
@@ -47,8 +47,8 @@ one c =
     }
 
 -- no more chains are counted than there are rows
-few : (c : tie.After-link Inv-loop μ-loop) → c .before .before .before .before .counted .result ≤ 16
-few c = let counted = c .before .before .before .before .counted .ensures in omega arith
+few : (c : tie.After-link Inv-loop μ-loop) → c .before .before .before .before .held .result ≤ 16
+few c = let counted = c .before .before .before .before .held .ensures in omega arith
 
 near : (c : tie.At-loop Inv-loop μ-loop) → c .loop .next ≤ 4294970000
 near c =
@@ -61,7 +61,7 @@ short c =
     c .read-chain .ensures _ (searched link _ (as-it-is (one link))) .few
 
 link-requires : tie.Need-link-requires Inv-loop μ-loop
-link-requires c κs = let counted = c .before .before .counted2 .ensures in (omega arith, refl, refl)
+link-requires c κs = let counted = c .before .before .held2 .ensures in (omega arith, refl, refl)
 
 read-chain-requires : tie.Need-read-chain-requires Inv-loop μ-loop
 read-chain-requires c κs =
@@ -76,7 +76,7 @@ returns c table given =
     let told = c .enum-told2 .given .1 in
     let turn = c .before .before in
     let loop = turn .before .before .before .before in
-    let counted = loop .before .before .before .before .before .counted .ensures in
+    let counted = loop .before .before .before .before .before .held .ensures in
     let chain = turn .read-chain .ensures table (searched (loop .before) table given) in
     chains-refused _ _ _ _ _ (loop .loop .inv .1 table given) _ _ _ _ (omega arith) told
     (not-taken _ _ told (chain .said))
@@ -101,7 +101,7 @@ loop-again c =
 returns-2 : tie.Need-returns-2 Inv-loop μ-loop
 returns-2 c table given =
     let loop = c .before in
-    let counted = loop .before .before .before .before .before .counted .ensures in
+    let counted = loop .before .before .before .before .before .held .ensures in
     chains-whole _ _ _ _ _ (loop .loop .inv .1 table given) _ (omega arith)
 
 -- an index of a turn is below the count
@@ -114,8 +114,8 @@ read-chains-spec =
     (tie.spec
     Inv-loop
     μ-loop
-    (λ c κs. omega arith)  -- counted-requires
-    (λ c κs. omega arith)  -- counted-requires-2
+    (λ c κs. omega arith)  -- held-requires
+    (λ c κs. omega arith)  -- held-requires-2
     link-requires
     loop-holds
     read-chain-requires

@@ -5,24 +5,25 @@ use mathlib.Core.Path.{_≡_, refl, ap, _∙_}
 use native.Mathlib.Numerals.{add-one}
 use native.Mathlib.Omega.{arith}
 use borrow.Author.Needs.{needs}
+use lib.ListN.{length}
 use Rattle.instants.specs.Due.{writerDue}
 use Rattle.gathering.specs.Pairs.{withMask, joinedBelow, joinedMasks}
 use Rattle.gathering.proofs.joined_masks.Statement.{statement}
 use Rattle.gathering.proofs.joined_masks.Tie as tie
 
 abbrev Inv-loop : tie.InvT-loop
-Inv-loop labels writer readers count masks₀ l₀ masks l = (l ≤ count) × (masks ≡ joinedBelow writer readers l)
+Inv-loop labels writer readers masks₀ count l₀ masks l = (l ≤ count) × (masks ≡ joinedBelow writer readers l)
 
 abbrev μ-loop : tie.MeasureT-loop
-μ-loop labels writer readers count masks₀ l₀ masks l = count - l
+μ-loop labels writer readers masks₀ count l₀ masks l = count - l
 
 loop-holds : tie.Need-loop-holds Inv-loop μ-loop
 unfolding joinedBelow
-loop-holds c = (omega arith, refl)
+loop-holds c = (omega arith, c .before .pre)
 
 loop-again : tie.Need-loop-again Inv-loop μ-loop
 unfolding joinedBelow withMask writerDue
-loop-again c = (omega arith, rw (add-one, c .before .before .before .loop .inv .1))
+loop-again c = (omega arith, rw (add-one, c .before .before .before .before .loop .inv .1))
 
 returns : tie.Need-returns Inv-loop μ-loop
 unfolding joinedMasks
@@ -43,11 +44,11 @@ joined-masks-spec =
     (λ c. omega arith)  -- element-copy-out-w
     (λ c. omega arith)  -- cast-w
     (λ c. omega arith)  -- mul-masks
-    (λ c. omega arith)  -- array-read-masks
-    (λ c. omega arith)  -- mul-masks-2
     (λ c. omega arith)  -- element-copy-out-masks
+    (λ c. omega arith)  -- mul-masks-2
+    (λ c. omega arith)  -- element-copy-out-masks-2
     (λ c. omega arith)  -- mul-masks-3
-    (λ c. omega arith)  -- array-write-masks
+    (λ c. omega arith)  -- element-write-masks
     (λ c. omega arith)  -- add-l
     (λ c. omega arith)  -- loop-less
     loop-again

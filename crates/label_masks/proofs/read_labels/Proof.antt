@@ -11,19 +11,19 @@ use Rattle.label_masks.proofs.read_labels.Statement.{statement}
 use Rattle.label_masks.proofs.read_labels.Tie as tie
 
 abbrev Inv-loop : tie.InvT-loop
-Inv-loop labels tasks readers count all masks₀ r₀ masks r =
+Inv-loop labels tasks readers masks₀ count all r₀ masks r =
     (r ≤ all) × (length masks ≡ 32) × ReadLabels count r readers masks
 
 abbrev μ-loop : tie.MeasureT-loop
-μ-loop labels tasks readers count all masks₀ r₀ masks r = all - r
+μ-loop labels tasks readers masks₀ count all r₀ masks r = all - r
 
 loop-holds : tie.Need-loop-holds Inv-loop μ-loop
-loop-holds c = (omega arith, length-replicate {A = ℕ} 32 0, none-read _ _)
+loop-holds c = rw (c .before .before .pre) (omega arith, length-replicate {A = ℕ} 32 0, none-read _ _)
 
 loop-again : tie.Need-loop-again Inv-loop μ-loop
 loop-again c =
     let turn = c .before .before .loop in
-    let tasks = c .before .before .before .known .ensures in (
+    let tasks = c .before .before .before .held2 .ensures in (
       omega arith,
       length-set (turn .masks) _ _ ∙ turn .inv .1,
       one-more-read _ (turn .inv .1) (omega arith) (c .labels-of .ensures) (turn .inv .2),
@@ -32,7 +32,7 @@ loop-again c =
 returns : tie.Need-returns Inv-loop μ-loop
 returns c =
     let start = c .before .before .before .before in
-    let tasks : c .before .loop .r ≡ min (start .args .tasks) 32 = omega (arith, c .before .before .known .ensures) in
+    let tasks : c .before .loop .r ≡ min (start .args .tasks) 32 = omega (arith, c .before .before .held2 .ensures) in
     let labels = c .before .before .before .held .ensures in
     all-read _ (rw (tasks, labels) at (c .before .loop .inv .2))
 
@@ -43,7 +43,7 @@ read-labels-spec =
     Inv-loop
     μ-loop
     (λ c κs. search needs)  -- held-requires
-    (λ c κs. search needs)  -- known-requires
+    (λ c κs. search needs)  -- held-requires-2
     loop-holds
     (λ c. omega arith)  -- cast-labels-of
     (λ c κs. omega arith)  -- labels-of-requires

@@ -12,19 +12,19 @@ use Rattle.label_masks.proofs.written_labels.Statement.{statement}
 use Rattle.label_masks.proofs.written_labels.Tie as tie
 
 abbrev Inv-loop : tie.InvT-loop
-Inv-loop labels writer count masks₀ l₀ masks l = (l ≤ count) × (length masks ≡ 32) × WrittenLabels l writer masks
+Inv-loop labels writer masks₀ count l₀ masks l = (l ≤ count) × (length masks ≡ 32) × WrittenLabels l writer masks
 
 abbrev μ-loop : tie.MeasureT-loop
-μ-loop labels writer count masks₀ l₀ masks l = count - l
+μ-loop labels writer masks₀ count l₀ masks l = count - l
 
 loop-holds : tie.Need-loop-holds Inv-loop μ-loop
-loop-holds c = (omega arith, length-replicate {A = ℕ} 32 0, none-written _)
+loop-holds c = rw (c .before .pre) (omega arith, length-replicate {A = ℕ} 32 0, none-written _)
 
 loop-again : tie.Need-loop-again Inv-loop μ-loop
 unfolding writerDue
 loop-again c =
-    let turn = c .before .before .loop in
-    let counted = c .before .before .before .held .ensures in (
+    let turn = c .before .before .before .loop in
+    let counted = c .before .before .before .before .held .ensures in (
       omega arith,
       length-set (turn .masks) _ _ ∙ turn .inv .1,
       one-more-written _ (turn .inv .1) (omega arith) (turn .inv .2),

@@ -17,13 +17,17 @@ abbrev μ-loop : tie.MeasureT-loop
 
 inverses-of-requires : tie.Need-inverses-of-requires Inv-loop μ-loop
 inverses-of-requires c κs =
-    let right = c .before .pre .right in
-    (omega (arith, right .few), λ i below. right .each i below)
+    let right = c .before .before .before .pre .right in (
+      omega (arith, right .few),
+      omega (arith, right .few),
+      omega (arith, right .few),
+      λ i below. right .each i below,
+    )
 
 begun-requires : tie.Need-begun-requires Inv-loop μ-loop
 begun-requires c κs =
-    let inverses = c .before .before .before .before in
-    let chosen = inverses .before in
+    let inverses = c .before .before in
+    let chosen = inverses .before .before .before in
     ((_, chosen .before .pre), chosen .slowest .ensures, inverses .inverses-of .ensures)
 
 loop-holds : tie.Need-loop-holds Inv-loop μ-loop
@@ -48,7 +52,7 @@ walking c =
 step-requires : tie.Need-step-requires Inv-loop μ-loop
 step-requires c κs =
     let inside = c .before .before in
-    let inverses = inside .before .before .before .before .before .before .before .before in
+    let inverses = inside .before .before .before .before .before .before in
     (walking inside, inverses .inverses-of .ensures)
 
 loop-less : tie.Need-loop-less Inv-loop μ-loop

@@ -2,7 +2,7 @@
 use mathlib.Core.Path.{sym, _∙_}
 use borrow.Author.Needs.{needs}
 use Rattle.questions.specs.Questions.{points}
-use Rattle.questions.proofs.Asked.{refused-image, accepted-image}
+use Rattle.images.proofs.Asked.{refused-image, accepted-image}
 use Rattle.questions.proofs.points.Statement.{statement}
 use Rattle.questions.proofs.points.Tie as tie
 

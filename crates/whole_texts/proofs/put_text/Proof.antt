@@ -1,8 +1,8 @@
 -- `whole_texts::put_text` meets its contract. Assumes nothing.
 use borrow.Author.Needs.{needs}
 use Rattle.printing.specs.Printed.{printable}
-use Rattle.questions.proofs.Asked.{refused-image}
-use Rattle.whole_texts.proofs.Outcomes.{of-accepted, of-refused, shown-whole}
+use Rattle.images.proofs.Asked.{refused-image, shown-whole}
+use Rattle.whole_texts.proofs.Outcomes.{of-accepted, of-refused}
 use Rattle.whole_texts.proofs.put_text.Statement.{statement}
 use Rattle.whole_texts.proofs.put_text.Tie as tie
 

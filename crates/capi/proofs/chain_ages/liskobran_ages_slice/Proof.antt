@@ -2,21 +2,21 @@
 use mathlib.Core.Path.{sym, ap, _∙_}
 use borrow.Author.Needs.{needs}
 use Rattle.questions.specs.Answers.{saidOfAges}
-use Rattle.capi.specs.Said.{agesSaid}
+use Rattle.c_answers.specs.Said.{agesSaid}
 use Rattle.capi.proofs.chain_ages.liskobran_ages_slice.Statement.{statement}
 use Rattle.capi.proofs.chain_ages.liskobran_ages_slice.Tie as tie
 
 returns : tie.Need-returns
-unfolding agesSaid
 returns c =
-    ap agesSaid (ap saidOfAges (sym (c .before .answer .given .1)) ∙ c .before .before .before .ages .ensures)
+    let told = c .before .before in
+    c .given .ensures
+    ∙ ap agesSaid (ap saidOfAges (sym (told .answer .given .1)) ∙ told .before .before .ages .ensures)
 
 returns-2 : tie.Need-returns-2
-unfolding agesSaid
 returns-2 c =
-    let asked = c .before .before .before .before in
-    rw (c .number-of .ensures)
-    (ap agesSaid (ap saidOfAges (sym (c .before .before .answer2 .given .1)) ∙ asked .ages .ensures))
+    let told = c .before .before in
+    c .refused .ensures
+    ∙ ap agesSaid (ap saidOfAges (sym (told .answer2 .given .1)) ∙ told .before .before .ages .ensures)
 
 pub liskobran-ages-slice-spec : {M : Type 1} → statement M
 liskobran-ages-slice-spec =
@@ -24,7 +24,8 @@ liskobran-ages-slice-spec =
     (tie.spec
     (λ c κs. search needs)  -- ages-requires
     (λ c. search needs)  -- enum-known-answer
+    (λ c κs. search needs)  -- given-requires
     (λ c. search needs)  -- enum-known-answer-2
-    (λ c κs. search needs)  -- number-of-requires
+    (λ c κs. search needs)  -- refused-requires
     returns
     returns-2)

@@ -1,20 +1,22 @@
 -- `capi::reading::liskobran_read_slice` meets its contract. Assumes nothing.
+use mathlib.Core.Path.{sym, ap, _∙_}
 use borrow.Author.Needs.{needs}
-use Rattle.fields.proofs.Steps.{taken, not-taken}
-use Rattle.capi.specs.Said.{readSaid}
+use Rattle.table.specs.Refusals.{saidOfImage}
+use Rattle.c_answers.specs.Said.{readSaid}
 use Rattle.capi.proofs.reading.liskobran_read_slice.Statement.{statement}
 use Rattle.capi.proofs.reading.liskobran_read_slice.Tie as tie
 
 returns : tie.Need-returns
-unfolding readSaid
-returns c = rw (taken _ (c .enum-told .given .1) (c .before .before .read-table .ensures .answer))
+returns c =
+    let told = c .before in
+    c .accepted .ensures
+    ∙ ap readSaid (ap saidOfImage (sym (told .enum-told .given .1)) ∙ told .before .before .read-table .ensures .answer)
 
 returns-2 : tie.Need-returns-2
-unfolding readSaid
-returns-2 c = rw (
-  not-taken _ _ (c .before .before .answer .given .1) (c .before .before .before .before .read-table .ensures .answer),
-  c .number-of .ensures,
-)
+returns-2 c =
+    let told = c .before .before in
+    c .refused .ensures
+    ∙ ap readSaid (ap saidOfImage (sym (told .answer .given .1)) ∙ told .before .before .read-table .ensures .answer)
 
 pub liskobran-read-slice-spec : {M : Type 1} → statement M
 liskobran-read-slice-spec =
@@ -22,7 +24,8 @@ liskobran-read-slice-spec =
     (tie.spec
     (λ c κs. search needs)  -- read-table-requires
     (λ c. search needs)  -- enum-told
+    (λ c κs. search needs)  -- accepted-requires
     (λ c. search needs)  -- enum-known-answer
-    (λ c κs. search needs)  -- number-of-requires
+    (λ c κs. search needs)  -- refused-requires
     returns
     returns-2)

@@ -4,7 +4,7 @@ use mathlib.Core.Path.{refl}
 use native.Mathlib.Omega.{arith}
 use Rattle.following.specs.declared.four.Four.{Four}
 use Rattle.paths.specs.Walks.{Taking, Taken}
-use Rattle.paths.specs.declared.Walk.{Walk}
+use Rattle.path_sums.specs.declared.Walk.{Walk}
 use Rattle.paths.proofs.FourInstants.{nextFour, near-four, published-four, four-pass-on}
 use Rattle.paths.proofs.Takes.{next-taking}
 use Rattle.paths.proofs.steps.step.Statement.{statement}

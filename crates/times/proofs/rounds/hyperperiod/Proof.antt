@@ -35,7 +35,7 @@ loop-less : tie.Need-loop-less Inv-loop μ-loop
 loop-less c = omega arith
 
 -- what the function is told of its array
-length-period : (c : tie.After-counted Inv-loop μ-loop) → length (c .before .args .t1) ≡ 32
+length-period : (c : tie.After-held Inv-loop μ-loop) → length (c .before .args .t1) ≡ 32
 length-period c = omega arith
 
 loop-again : tie.Need-loop-again Inv-loop μ-loop
@@ -72,7 +72,7 @@ hyperperiod-spec =
     (tie.spec
     Inv-loop
     μ-loop
-    (λ c κs. search needs)  -- counted-requires
+    (λ c κs. search needs)  -- held-requires
     loop-holds
     mul-lcm-up-to-limit
     array-read-lcm-up-to-limit

@@ -1,0 +1,3 @@
+-- Laws of this crate.
+mod Bodies
+mod FieldsFilled

@@ -1,0 +1,16 @@
+-- `c_answers::of_pair::refused` meets its contract. Assumes nothing.
+use borrow.Author.Needs.{needs}
+use Rattle.c_answers.specs.Said.{pointsSaid}
+use Rattle.c_answers.proofs.of_pair.refused.Statement.{statement}
+use Rattle.c_answers.proofs.of_pair.refused.Tie as tie
+
+returns : tie.Need-returns
+unfolding pointsSaid
+returns c = rw (c .number-of .ensures)
+
+pub refused-spec : {M : Type 1} → statement M
+refused-spec =
+    tie.close
+    (tie.spec
+    (λ c κs. search needs)  -- number-of-requires
+    returns)

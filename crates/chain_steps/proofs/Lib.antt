@@ -1,0 +1,4 @@
+-- Laws of this crate.
+mod ChainSteps
+pub mod LabelSearch
+mod StepSearch

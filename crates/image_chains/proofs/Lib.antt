@@ -1,0 +1,3 @@
+-- Laws of this crate.
+mod ChainPeriods
+pub mod Determined

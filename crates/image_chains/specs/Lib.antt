@@ -1,0 +1,3 @@
+-- Definitions of this crate.
+pub mod PeriodsShown
+pub mod Taken

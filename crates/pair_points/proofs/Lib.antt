@@ -1,0 +1,3 @@
+-- Laws of this crate.
+mod PointsOf
+mod WithinArrays

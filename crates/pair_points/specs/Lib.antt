@@ -1,0 +1,3 @@
+-- Definitions of this crate.
+pub mod PairPoints
+pub mod Parts

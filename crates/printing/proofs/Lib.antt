@@ -1,3 +1,0 @@
--- Laws and theorems of this crate.
-pub mod AcceptedRound
-pub mod Determined
