@@ -17,7 +17,7 @@ use Rattle.following.proofs.Chains.{chain-round}
 use Rattle.following.proofs.Ends.{chain-timed}
 use Rattle.paths.specs.Walks.{pathsBelow, RightChain, SumsOfRound}
 use Rattle.path_sums.specs.declared.Walk.{Walk}
-use Rattle.aged_chains.specs.Aged.{agedBy, RightAsked}
+use Rattle.aged_chains.specs.Parts.{agedBy, RightAsked}
 
 module _ (periods : List ℕ) {count : ℕ} (asked : RightAsked periods count) (known : 0 < count) {round : ℕ}
     (held : round ≡ min (lcmOf (take count periods)) 1000001)

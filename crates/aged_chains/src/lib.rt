@@ -1,7 +1,7 @@
 // The ages of a chain, by the periods of its tasks: first 12 (document 01, Numbers that say no).
 ghost use mathlib.Core.Path.{_≡_};
 ghost use Rattle.aged_chains.specs.Aged.{saidOfAges};
-ghost use Rattle.aged_chains.specs.Aged.{agedBy, RightAsked};
+ghost use Rattle.aged_chains.specs.Parts.{agedBy, RightAsked};
 use following::rounds::chain_round;
 use paths::count_paths;
 use table::Refusal;

@@ -18,7 +18,7 @@ use Rattle.table.proofs.Accepted.{accepted-sound}
 use Rattle.table.proofs.MeetsRules.{accepted-meets-rules}
 use Rattle.image_chains.specs.PeriodsShown.{PeriodsShown}
 use Rattle.image_chains.specs.declared.PeriodsRead.{PeriodsRead}
-use Rattle.aged_chains.specs.Aged.{agedBy, RightAsked}
+use Rattle.aged_chains.specs.Parts.{agedBy, RightAsked}
 use Rattle.questions.specs.Questions.{ages}
 use Rattle.questions.proofs.ChainShown.{Shown, none-asked, none-aged, known-asked, known-aged}
 

@@ -22,7 +22,7 @@ use Rattle.image_chains.specs.PeriodsShown.{periodsIn}
 use Rattle.ages.specs.Ages.{agesOf, agesOfChain, chainTimings}
 use Rattle.following.specs.Following.{chainBy}
 use Rattle.following.proofs.Chains.{chain-of}
-use Rattle.aged_chains.specs.Aged.{agedBy, RightAsked}
+use Rattle.aged_chains.specs.Parts.{agedBy, RightAsked}
 use Rattle.questions.specs.Questions.{chainAged}
 
 -- what is shown of chain k of an accepted table

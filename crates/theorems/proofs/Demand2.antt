@@ -3,9 +3,9 @@
 -- determine every answer for every input.
 -- To be read before, besides what demand 1 names: lists/specs/Lists, times/specs/Releases, Hyperperiod, Rounds and
 -- Points, table/specs/Rules, bits/specs/Packing, writing/specs/Written, copies/specs/Copies and Listing,
--- ages/specs/Ages, questions/specs/Answers, listings/specs/FromBytes and Fits, first_line/specs/FirstLine,
--- printing/specs/Words and Printed, cases/specs (all under crates/). How a contract is quoted: Demand1.antt. What holds
--- of the ages of a chain: Demand2Ages.antt. Assumes nothing.
+-- ages/specs/Ages, aged_chains/specs/Aged, questions/specs/Answers, listings/specs/FromBytes and Fits,
+-- first_line/specs/FirstLine, printing/specs/Words and Printed, cases/specs (all under crates/). How a contract is quoted:
+-- Demand1.antt. What holds of the ages of a chain: Demand2Ages.antt. Assumes nothing.
 use Prim.Native.Nat.{ℕ, _%_, _≤_, _<_, _∣_}
 use mathlib.Core.Path.{_≡_}
 use mathlib.Core.Bool.{true}
