@@ -2,9 +2,9 @@
 ghost use mathlib.Core.Path.{_≡_};
 ghost use Rattle.aged_chains.specs.Aged.{saidOfAges};
 ghost use Rattle.aged_chains.specs.Parts.{agedBy, RightAsked};
-use following::rounds::chain_round;
 use paths::count_paths;
 use table::Refusal;
+use times::rounds::round_up_to_limit;
 
 // The ages of a chain.
 pub enum AgesAnswer {
@@ -32,7 +32,7 @@ pub fn ages_of(periods: &[u32; 32], count: usize) -> AgesAnswer
             place: 0,
         };
     }
-    let round = chain_round(periods, count);
+    let round = round_up_to_limit(periods, count);
     let counted = count_paths(periods, count, round);
     AgesAnswer::Ages {
         paths: counted.paths,

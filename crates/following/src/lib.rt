@@ -10,7 +10,6 @@ ghost use Rattle.following.specs.Fours.{All, Each};
 
 pub mod four;
 mod releases;
-pub mod rounds;
 
 use four::Four;
 use four::all_last_to;

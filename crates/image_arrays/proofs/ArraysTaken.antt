@@ -1,9 +1,8 @@
 -- What is shown of an image whose arrays were read: nothing of a refused one, and else its table. No contract cites this
 -- file. Assumes nothing.
-use Prim.Native.Nat.{ℕ, _≤_}
+use Prim.Native.Nat.{ℕ}
 use mathlib.Core.Path.{_≡_, refl, sym, ap, _∙_}
 use mathlib.Core.List.{List}
-use Rattle.lists.specs.Lists.{padded}
 use Rattle.outcomes.proofs.Outcomes.{gives-no-refusal}
 use Rattle.table.specs.Refusals.{saidOfImage}
 use Rattle.table.specs.Table.{Rows, hyperperiodOf}

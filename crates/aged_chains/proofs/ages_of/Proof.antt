@@ -14,7 +14,7 @@ known c = omega (arith, c .if1 .left)
 
 count-paths-requires : tie.Need-count-paths-requires
 count-paths-requires c κs =
-    right-chain (c .before .before .args .periods .now) (c .before .before .pre) (known (c .before)) (c .chain-round .ensures)
+    right-chain (c .before .before .args .periods .now) (c .before .before .pre) (known (c .before)) (c .round-up-to-limit .ensures)
 
 sub-t7 : tie.Need-sub-t7
 sub-t7 c =
@@ -23,7 +23,7 @@ sub-t7 c =
     let start = round .before .before in
     omega (
       arith,
-      best-first (start .args .periods .now) (start .pre) (known (round .before)) (round .chain-round .ensures)
+      best-first (start .args .periods .now) (start .pre) (known (round .before)) (round .round-up-to-limit .ensures)
           (counted .count-paths .ensures),
     )
 
@@ -32,7 +32,7 @@ returns-2 c =
     let counted = c .before in
     let round = counted .before in
     let start = round .before .before in
-    chain-aged (start .args .periods .now) (start .pre) (known (round .before)) (round .chain-round .ensures)
+    chain-aged (start .args .periods .now) (start .pre) (known (round .before)) (round .round-up-to-limit .ensures)
     (counted .count-paths .ensures)
 
 pub ages-of-spec : {M : Type 1} → statement M
@@ -40,7 +40,7 @@ ages-of-spec =
     tie.close
     (tie.spec
     returns
-    (λ c κs. (omega (arith, c .before .pre .right .few), omega (arith, c .before .pre .right .few, c .before .pre .long)))
+    (λ c κs. c .before .pre .long)  -- round-up-to-limit-requires
     count-paths-requires
     sub-t7
     returns-2)
