@@ -94,7 +94,7 @@ static void expect_ages(const uint8_t *image, size_t length, uint64_t chain, uin
 
 static void ages(const uint8_t *image)
 {
-    static const uint32_t chain_0[5] = {2, 1, 8, 7, 1}, none[5] = {0, 0, 0, 0, 0};
+    static const uint32_t chain_0[5] = {2, 1, 13, 12, 1}, none[5] = {0, 0, 0, 0, 0};
     expect_ages(image, 16, 0, 0, chain_0);
     expect_ages(image, 16, 1, 12, none);
     expect_ages(NULL, 0, 0, 1, none);

@@ -61,8 +61,9 @@ typedef struct LiskobranListing {
     uint64_t bytes;
 } LiskobranListing;
 
-/* The ages of a chain: how many basic paths, the longest length, the worst and the best age in ticks, and the worst less
-   the best (number 0), or refused. */
+/* The ages of a chain: how many basic paths, the longest length up to the release of the chain's last task, the worst and
+   the best age in ticks up to the valve, which moves one period of that task after its release, and the worst less the
+   best (number 0), or refused. */
 typedef struct LiskobranAges {
     uint32_t number;
     uint64_t place;

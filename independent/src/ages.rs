@@ -1,10 +1,12 @@
-//! Document 01, "Age of a chain", by letting the chain run: every start is a piece
-//! of data, named by its instant, that the tasks hand on from job to job.
+//! Document 01, "Age of a chain", and document 02, C-11, by letting the chain run:
+//! every start is a piece of data, named by its instant, that the tasks hand on from
+//! job to job.
 //!
 //! A newer start overwrites an older one on its way, and starts never overtake one
 //! another. So the end E(t) is the first instant at which the last task takes t or
 //! a newer start, and t is the start of a basic path when the last task really
-//! takes t itself. The next start that it takes ends at E(t + T1).
+//! takes t itself. The next start that it takes ends at E(t + T1). What the job that
+//! took it made of it reaches the valve when that job ends, at its next release.
 
 use crate::hyperperiod::hyperperiod;
 
@@ -27,11 +29,13 @@ struct Link {
     published: Option<u64>,
 }
 
-/// A start and the instant at which the last task first takes it.
+/// A start, the instant at which the last task first takes it, and the one at which
+/// the valve moves by it.
 #[derive(Debug, Clone, Copy, PartialEq, Eq)]
 pub struct Arrival {
     pub start: u64,
     pub end: u64,
+    pub valve: u64,
 }
 
 /// A chain that runs from tick 0 on.
@@ -54,7 +58,7 @@ impl Run {
             let now = self.next_instant();
             let after = self.links[last].taken;
             if let (true, Some(start)) = (before != after, after) {
-                return Arrival { start, end: now };
+                return Arrival { start, end: now, valve: self.links[last].next_release };
             }
         }
     }
@@ -105,7 +109,7 @@ pub fn ages_of(periods: &[u64]) -> Option<Ages> {
     let (mut paths, mut longest, mut worst, mut best) = (0, 0, 0, u64::MAX);
     while path.start < starts_until {
         let next = run.next_arrival();
-        let age = first_period + next.end - path.start;
+        let age = first_period + next.valve - path.start;
         paths += 1;
         longest = longest.max(path.end - path.start);
         worst = worst.max(age);

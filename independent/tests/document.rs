@@ -61,7 +61,7 @@ fn ends_of_chain_3_7_3() {
 
 #[test]
 fn answer_of_chain_3_7_3() {
-    let expected = Ages { paths: 3, longest: 9, worst: 21, best: 18, jitter: 3 };
+    let expected = Ages { paths: 3, longest: 9, worst: 24, best: 21, jitter: 3 };
     assert_eq!(ages_of(&[3, 7, 3]), expected);
     // The same where the first task is also the last.
     let back_and_forth = Description {
@@ -74,14 +74,14 @@ fn answer_of_chain_3_7_3() {
 
 #[test]
 fn answer_of_chain_5_10_20() {
-    let expected = Ages { paths: 1, longest: 10, worst: 35, best: 35, jitter: 0 };
+    let expected = Ages { paths: 1, longest: 10, worst: 55, best: 55, jitter: 0 };
     assert_eq!(ages_of(&[5, 10, 20]), expected);
 }
 
 #[test]
 fn answer_of_chain_5_2() {
     let answer = ages_of(&[5, 2]);
-    assert_eq!((answer.paths, answer.worst, answer.best), (2, 11, 10));
+    assert_eq!((answer.paths, answer.worst, answer.best), (2, 13, 12));
 }
 
 #[test]
@@ -133,7 +133,7 @@ fn largest_number_of_labels() {
 #[test]
 fn printed_example() {
     let expected = "hyperperiod 10\ncore 0\n0 W0\n4 W0\ncore 1\n0 R0:1\n5 R0:1\n\
-                    chain 0 paths 2 long 1 worst 8 best 7 jitter 1\n";
+                    chain 0 paths 2 long 1 worst 13 best 12 jitter 1\n";
     assert_eq!(print(&EXAMPLE), expected);
     let described = Description {
         cores: 2,

@@ -65,9 +65,10 @@ fn longest_chains() {
     let image = description.image();
     let answer = doing("ages", || ages(&image, 15)).unwrap();
     // The start 0 is taken at 0 and by the three later slow jobs at 2, 4 and 6 million.
-    // All starts up to 1,000,000 but 0 end one million later.
+    // All starts up to 1,000,000 but 0 end one million later, and the valve moves
+    // another million after that.
     assert_eq!((answer.paths, answer.longest), (1, 6_000_000));
-    assert_eq!((answer.worst, answer.best, answer.jitter), (7_000_001, 7_000_001, 0));
+    assert_eq!((answer.worst, answer.best, answer.jitter), (8_000_001, 8_000_001, 0));
     let text = doing("print", || print(&image));
     assert_eq!(text.lines().count(), 1 + 2 + 16);
 }
@@ -75,11 +76,12 @@ fn longest_chains() {
 #[test]
 fn many_paths() {
     // One path for each of the 999 releases of the reader before 999,999. The worst
-    // age has the start furthest before the release that takes it, by 998.
+    // age has the start furthest before the release that takes it, by 998. The next
+    // one is taken 1001 later, and 1001 after that it has come to the valve.
     let image = Description::of_chain(&[999, 1001]).image();
     let answer = doing("ages", || ages(&image, 0)).unwrap();
     assert_eq!((answer.paths, answer.longest), (999, 998));
-    assert_eq!((answer.worst, answer.best), (999 + 998 + 1001, 999 + 1001));
+    assert_eq!((answer.worst, answer.best), (999 + 998 + 2 * 1001, 999 + 2 * 1001));
     // Eight tasks with the own hyperperiod 720,720, slowest period 16.
     let image = Description::of_chain(&[16, 13, 11, 9, 7, 5, 3, 2]).image();
     let answer = doing("ages", || ages(&image, 0)).unwrap();

@@ -31,7 +31,7 @@ fn assert_prints(arguments: &[&str], image: &[u8], expected: &str) {
 #[test]
 fn prints_the_example() {
     let expected = "hyperperiod 10\ncore 0\n0 W0\n4 W0\ncore 1\n0 R0:1\n5 R0:1\n\
-                    chain 0 paths 2 long 1 worst 8 best 7 jitter 1\n";
+                    chain 0 paths 2 long 1 worst 13 best 12 jitter 1\n";
     assert_prints(&[], &EXAMPLE, expected);
 }
 
@@ -68,7 +68,7 @@ fn answers_listings() {
 
 #[test]
 fn answers_ages() {
-    assert_prints(&["ages", "0"], &EXAMPLE, "paths 2 long 1 worst 8 best 7 jitter 1\n");
+    assert_prints(&["ages", "0"], &EXAMPLE, "paths 2 long 1 worst 13 best 12 jitter 1\n");
     assert_prints(&["ages", "1"], &EXAMPLE, "refused 12 0\n");
 }
 

@@ -6,3 +6,4 @@ pub mod Once
 pub mod Reached
 pub mod Repeats
 pub mod Rising
+pub mod Valve

@@ -14,7 +14,7 @@ use Rattle.times.specs.Releases.{Timing, firstFrom}
 use Rattle.times.proofs.Hyperperiod.{period-divides-hyperperiod, hyperperiod-positive}
 use Rattle.times.proofs.ReleasesRepeat.{firstFrom-repeats}
 use Rattle.times.proofs.ReleasesRise.{jobEnd-repeats}
-use Rattle.ages.specs.Ages.{Chain, firstPeriod, follow, endOf, isBasic, lengthOf, ageOf, roundOf}
+use Rattle.ages.specs.Ages.{Chain, firstPeriod, follow, endOf, isBasic, lengthOf, ageAtRelease, ageOf, roundOf}
 use Rattle.ages.proofs.Rising.{HasPeriod, Timed, all-by-number}
 
 -- H is a multiple of the task's period
@@ -85,7 +85,7 @@ module _ (chain : Chain) (timed : Timed chain) where
   length-repeats t = omega (arith, end-repeats t)
 
   pub age-repeats : (t : ℕ) → ageOf chain (t + roundOf chain) ≡ ageOf chain t
-  unfolding ageOf
+  unfolding ageOf ageAtRelease
   age-repeats t = omega (arith, next-end-repeats t)
 
   -- and in every round

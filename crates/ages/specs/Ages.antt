@@ -1,4 +1,4 @@
--- The age of a chain. Document 01, Age of a chain. Assumes nothing.
+-- The age of a chain. Document 01, Age of a chain; document 02, C-11. Assumes nothing.
 use Prim.Native.Nat.{ℕ, _+_, _-_, _/_, min, max}
 use mathlib.Core.Bool.{Bool}
 use mathlib.Core.List.{List, [], _∷_, map}
@@ -31,6 +31,14 @@ endOf chain t = follow (chain .others) t
 abbrev pub firstPeriod : Chain → ℕ
 firstPeriod chain = chain .first .period
 
+-- the task a chain ends with; it may also be its second, or its first again
+unfoldable pub lastTask : Timing → List Timing → Timing
+lastTask task [] = task
+lastTask task (next ∷ more) = lastTask next more
+
+abbrev pub lastPeriod : Chain → ℕ
+lastPeriod chain = lastTask (chain .first) (chain .others) .period
+
 -- "A basic path is a start t with E(t) < E(t + T1), where T1 is the first period."
 unfoldable pub isBasic : Chain → ℕ → Bool
 isBasic chain t = ltb (endOf chain t) (endOf chain (t + firstPeriod chain))
@@ -39,9 +47,13 @@ isBasic chain t = ltb (endOf chain t) (endOf chain (t + firstPeriod chain))
 unfoldable pub lengthOf : Chain → ℕ → ℕ
 lengthOf chain t = endOf chain t - t
 
--- "Its age is T1 + E(t + T1) − t"
+-- "Its age is T1 + E(t + T1) − t": so far it goes to the release of the last task
+unfoldable pub ageAtRelease : Chain → ℕ → ℕ
+ageAtRelease chain t = firstPeriod chain + endOf chain (t + firstPeriod chain) - t
+
+-- "the valve moves one period of that task later .. Add the last task's period to every age" (C-11)
 unfoldable pub ageOf : Chain → ℕ → ℕ
-ageOf chain t = firstPeriod chain + endOf chain (t + firstPeriod chain) - t
+ageOf chain t = ageAtRelease chain t + lastPeriod chain
 
 -- "the least common multiple of the chain's own periods"
 unfoldable pub roundOf : Chain → ℕ

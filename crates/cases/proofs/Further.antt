@@ -16,7 +16,7 @@ use Rattle.copies.specs.Copies.{written, served, writesAt, readsAt, copiesAt, f
 use Rattle.copies.specs.Listing.{copyFields, frameFields, listingFields, listingOf}
 use Rattle.copies.specs.Plans.{listedPlan, fullPlan}
 use Rattle.ages.specs.Ages.{follow, endOf, isBasic, lengthOf, ageOf, roundOf, basicPaths, largest, least, worstAge}
-use Rattle.ages.specs.Ages.{bestAge, agesOf, chainTimings, agesOfChain}
+use Rattle.ages.specs.Ages.{lastTask, ageAtRelease, bestAge, agesOf, chainTimings, agesOfChain}
 use Rattle.questions.specs.Questions.{coreListed, pointsOf, points, listing, lentAfter, bytesListed, ages}
 use Rattle.printing.specs.Words.{digitsIn, decimal, named}
 use Rattle.printing.specs.Printed.{copyText, frameText, coreText, chainText, wholeText, printable, textOf, printed}
@@ -30,7 +30,7 @@ unfolding Holds someBelow eachBelow eachOf padded bitCount bitAt fieldAt bitsOf 
     marks reads joins chainOf hyperperiodOf between headFields taskFields rightReaders labelFields tableOf
     rowsOf stepHolds chainTask chainFields fill allFields wholeFields readImage answerOf written served
     writesAt readsAt copiesAt framesAt framesOf copyFields frameFields listingFields listingOf listedPlan fullPlan
-    follow endOf isBasic lengthOf ageOf roundOf basicPaths largest least worstAge bestAge agesOf chainTimings
+    follow endOf isBasic lengthOf lastTask ageAtRelease ageOf roundOf basicPaths largest least worstAge bestAge agesOf chainTimings
     agesOfChain pointsOf points coreListed listing lentAfter bytesListed ages digitsIn decimal named copyText frameText coreText
     chainText wholeText printable textOf printed
 further-cases-hold =

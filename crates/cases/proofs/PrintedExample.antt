@@ -15,7 +15,7 @@ use Rattle.table.specs.Shown.{answerOf}
 use Rattle.copies.specs.Copies.{written, served, writesAt, readsAt, copiesAt, framesAt, framesOf}
 use Rattle.copies.specs.Listing.{copyFields, frameFields, listingFields, listingOf}
 use Rattle.ages.specs.Ages.{follow, endOf, isBasic, lengthOf, ageOf, roundOf, basicPaths, largest, least, worstAge}
-use Rattle.ages.specs.Ages.{bestAge, agesOf}
+use Rattle.ages.specs.Ages.{lastTask, ageAtRelease, bestAge, agesOf}
 use Rattle.questions.specs.Questions.{coreListed, listing}
 use mathlib.Core.Path.{_≡_, refl}
 use Rattle.cases.specs.Example.{example, exampleText}
@@ -31,7 +31,7 @@ unfolding someBelow eachBelow eachOf padded bitCount bitAt fieldAt bitsOf bitsOf
     hyperperiodOf between headFields taskFields rightReaders labelFields tableOf rowsOf stepHolds
     chainTask chainFields fill allFields wholeFields readImage answerOf written served writesAt readsAt
     copiesAt framesAt framesOf copyFields frameFields listingFields listingOf follow endOf isBasic
-    lengthOf ageOf roundOf basicPaths largest least worstAge bestAge agesOf coreListed listing chainOf agesOfChain
+    lengthOf lastTask ageAtRelease ageOf roundOf basicPaths largest least worstAge bestAge agesOf coreListed listing chainOf agesOfChain
     chainTimings digitsIn decimal named copyText frameText coreText chainText wholeText printable textOf
     printed
 printed-example = refl

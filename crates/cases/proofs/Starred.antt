@@ -15,7 +15,7 @@ use Rattle.table.specs.Shown.{answerOf}
 use Rattle.copies.specs.Copies.{written, served, writesAt, readsAt, copiesAt, framesAt, framesOf}
 use Rattle.copies.specs.Listing.{copyFields, frameFields, listingFields, listingOf}
 use Rattle.ages.specs.Ages.{follow, endOf, isBasic, lengthOf, ageOf, roundOf, basicPaths, largest, least, worstAge}
-use Rattle.ages.specs.Ages.{bestAge, agesOf}
+use Rattle.ages.specs.Ages.{lastTask, ageAtRelease, bestAge, agesOf}
 use Rattle.questions.specs.Questions.{coreListed, listing}
 use Rattle.first_line.specs.FirstLine.{hyperperiod}
 use Rattle.cases.specs.Kinds.{AllHold, none, _also_, Holds}
@@ -28,7 +28,7 @@ unfolding Holds someBelow eachBelow eachOf padded bitCount bitAt fieldAt bitsOf 
     marks reads joins hyperperiodOf between headFields taskFields rightReaders labelFields tableOf
     rowsOf stepHolds chainTask chainFields fill allFields wholeFields readImage answerOf written served
     writesAt readsAt copiesAt framesAt framesOf copyFields frameFields listingFields listingOf follow
-    endOf isBasic lengthOf ageOf roundOf basicPaths largest least worstAge bestAge agesOf coreListed listing hyperperiod
+    endOf isBasic lengthOf lastTask ageAtRelease ageOf roundOf basicPaths largest least worstAge bestAge agesOf coreListed listing hyperperiod
 starred-cases-hold =
     refl also refl also refl also refl also refl also refl also refl also refl also refl also refl
     also refl also refl also refl also none

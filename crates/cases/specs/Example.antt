@@ -23,7 +23,7 @@ exampleListing =
     0x00 ∷ 0x00 ∷ 0x14 ∷ 0x00 ∷ 0x00 ∷ 0x40 ∷ 0x00 ∷ 0x00 ∷ 0x00 ∷ 0x20
     ∷ 0x00 ∷ 0x00 ∷ 0x00 ∷ 0x80 ∷ 0x02 ∷ 0x00 ∷ 0x00 ∷ []
 
--- "it prints exactly:"
+-- "it prints exactly:", with the ages of document 02, C-11: "The example in 01 becomes worst 13, best 12"
 --     hyperperiod 10
 --     core 0
 --     0 W0
@@ -31,7 +31,7 @@ exampleListing =
 --     core 1
 --     0 R0:1
 --     5 R0:1
---     chain 0 paths 2 long 1 worst 8 best 7 jitter 1
+--     chain 0 paths 2 long 1 worst 13 best 12 jitter 1
 abbrev pub exampleText : List ℕ
 exampleText =
     104 ∷ 121 ∷ 112 ∷ 101 ∷ 114 ∷ 112 ∷ 101 ∷ 114 ∷ 105 ∷ 111 ∷ 100 ∷ 32 ∷ 49 ∷ 48 ∷ 10
@@ -42,5 +42,5 @@ exampleText =
     ∷ 48 ∷ 32 ∷ 82 ∷ 48 ∷ 58 ∷ 49 ∷ 10
     ∷ 53 ∷ 32 ∷ 82 ∷ 48 ∷ 58 ∷ 49 ∷ 10
     ∷ 99 ∷ 104 ∷ 97 ∷ 105 ∷ 110 ∷ 32 ∷ 48 ∷ 32 ∷ 112 ∷ 97 ∷ 116 ∷ 104 ∷ 115 ∷ 32 ∷ 50 ∷ 32 ∷ 108 ∷ 111 ∷ 110
-    ∷ 103 ∷ 32 ∷ 49 ∷ 32 ∷ 119 ∷ 111 ∷ 114 ∷ 115 ∷ 116 ∷ 32 ∷ 56 ∷ 32 ∷ 98 ∷ 101 ∷ 115 ∷ 116 ∷ 32 ∷ 55 ∷ 32
-    ∷ 106 ∷ 105 ∷ 116 ∷ 116 ∷ 101 ∷ 114 ∷ 32 ∷ 49 ∷ 10 ∷ []
+    ∷ 103 ∷ 32 ∷ 49 ∷ 32 ∷ 119 ∷ 111 ∷ 114 ∷ 115 ∷ 116 ∷ 32 ∷ 49 ∷ 51 ∷ 32 ∷ 98 ∷ 101 ∷ 115 ∷ 116 ∷ 32 ∷ 49 ∷ 50
+    ∷ 32 ∷ 106 ∷ 105 ∷ 116 ∷ 116 ∷ 101 ∷ 114 ∷ 32 ∷ 49 ∷ 10 ∷ []

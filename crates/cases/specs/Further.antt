@@ -23,8 +23,8 @@ further =
     ∷ made crossed crossedBytes
     ∷ made shared sharedBytes
     ∷ made back backBytes
-    -- "Chain 5, 2: paths 2, worst 11, best 10."
-    ∷ ages chain5and2 0 (gives (aged 2 1 11 10 1))
+    -- "Chain 5, 2: paths 2, worst 11, best 10."; "the other ages in 01 move likewise" (C-11)
+    ∷ ages chain5and2 0 (gives (aged 2 1 13 12 1))
     -- "In 16 bytes: refused 11."; in 17 it is not
     ∷ listing example 0 16 (refuses 11 0)
     ∷ listed example 0 17 (gives 17)
@@ -108,8 +108,8 @@ further =
     ∷ lent example 2 (counted ++ counted) (counted ++ counted)
     ∷ lent (lastByte 0x21) 0 (counted ++ counted) (counted ++ counted)
     -- "A task may stand in a chain more than once."; "chain length 2 to 8"
-    ∷ ages back 0 (gives (aged 2 4 10 8 2))
-    ∷ ages back 1 (gives (aged 2 19 24 23 1))
+    ∷ ages back 0 (gives (aged 2 4 12 10 2))
+    ∷ ages back 1 (gives (aged 2 19 27 26 1))
     ∷ printed back backText
     -- the points of both directions, periods 2 and 3; "The ceiling decides": Q(1) is 4 and not 2
     ∷ points back 0 1 1 (pair 2 3)

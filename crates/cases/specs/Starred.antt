@@ -24,13 +24,14 @@ starred =
     -- "Periods 999 and 1001: H 999,999." "1000 and 1001: refused 10."
     ∷ hyperperiod periods999and1001 999999
     ∷ refused periods1000and1001 10 0
-    -- "Chain 3, 7, 3: E(21) 30," "E(24) 36," "E(36) 51." "Answer: paths 3, long 9, worst 21, best 18, jitter 3."
+    -- "Chain 3, 7, 3: E(21) 30," "E(24) 36," "E(36) 51." "Answer: paths 3, long 9, worst 21, best 18, jitter 3.", where
+    -- "chain 3, 7, 3 becomes worst 24, best 21" (document 02, C-11)
     ∷ end (chain 3 (7 ∷ 3 ∷ [])) 21 30
     ∷ end (chain 3 (7 ∷ 3 ∷ [])) 24 36
     ∷ end (chain 3 (7 ∷ 3 ∷ [])) 36 51
-    ∷ answer (chain 3 (7 ∷ 3 ∷ [])) (aged 3 9 21 18 3)
-    -- "Chain 5, 10, 20: paths 1, long 10, worst 35, best 35, jitter 0."
-    ∷ answer (chain 5 (10 ∷ 20 ∷ [])) (aged 1 10 35 35 0)
+    ∷ answer (chain 3 (7 ∷ 3 ∷ [])) (aged 3 9 24 21 3)
+    -- "Chain 5, 10, 20: paths 1, long 10, worst 35, best 35, jitter 0."; "the other ages in 01 move likewise"
+    ∷ answer (chain 5 (10 ∷ 20 ∷ [])) (aged 1 10 55 55 0)
     -- "Core 0 of the image above: `00 00 14 00 00 40 00 00 00 20 00 00 00 80 02 00 00`."
     ∷ listing example 0 17 (gives exampleListing)
     -- "Empty image: refused 1, place 0."

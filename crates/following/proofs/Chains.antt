@@ -1,8 +1,8 @@
--- The chain of a table's tasks, by their periods; and its round. Assumes nothing.
+-- The chain of a table's tasks, by their periods; its last period; and its round. Assumes nothing.
 use Prim.Native.Nat.{ℕ, zero, suc, _+_, _-_, _<_, _≤_}
 use mathlib.Core.Path.{_≡_, refl, ap, ap₂, _∙_}
 use mathlib.Core.List.{List, [], _∷_, map}
-use native.Mathlib.Nat.{add-zero}
+use native.Mathlib.Nat.{add-zero, zero-add}
 use native.Mathlib.Omega.{arith}
 use lib.ListN.{length, getD, take, drop}
 use lib.Seq.{drop-cons}
@@ -10,7 +10,7 @@ use Rattle.times.specs.Releases.{Timing, every}
 use Rattle.times.specs.Hyperperiod.{lcmOf}
 use Rattle.table.specs.Table.{periodOf, timingOf}
 use Rattle.table.specs.declared.Table.{Table}
-use Rattle.ages.specs.Ages.{roundOf, chainTimings}
+use Rattle.ages.specs.Ages.{roundOf, lastTask, lastPeriod, chainTimings}
 use Rattle.following.specs.Following.{tasksFrom, chainBy}
 
 -- the tasks of these numbers, in their order
@@ -39,6 +39,18 @@ chain-of table periods (task ∷ tasks) some same =
     let next : 1 + j ≡ suc j = omega arith in
     rw next (same (suc j) (omega arith))) in
     rw (same 0 (omega arith), others)
+
+-- its last period
+last-of : (periods : List ℕ) (i n : ℕ)
+    → lastTask (every (getD periods i 0)) (tasksFrom periods (suc i) n) .period ≡ getD periods (i + n) 0
+unfolding lastTask tasksFrom
+last-of periods i zero = rw (add-zero i) refl
+last-of periods i (suc n) =
+    let moved : suc i + n ≡ i + suc n = omega arith in
+    last-of periods (suc i) n ∙ ap (λ j. getD periods j 0) moved
+
+pub chain-last : (periods : List ℕ) (count : ℕ) → lastPeriod (chainBy periods count) ≡ getD periods (count - 1) 0
+chain-last periods count = last-of periods 0 (count - 1) ∙ ap (λ j. getD periods j 0) (zero-add (count - 1))
 
 -- its round
 periods-of : (periods : List ℕ) (i n : ℕ) → i + n ≤ length periods

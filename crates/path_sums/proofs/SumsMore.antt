@@ -4,7 +4,7 @@ use mathlib.Core.Path.{_≡_, refl, sym, ap, _∙_}
 use mathlib.Core.List.{List, [], _∷_, _++_, map, map-append}
 use native.Mathlib.Omega.{arith}
 use lib.ListN.{length, length-append, length-map}
-use Rattle.ages.specs.Ages.{Chain, firstPeriod, endOf, lengthOf, ageOf, largest, least}
+use Rattle.ages.specs.Ages.{Chain, firstPeriod, lastPeriod, endOf, lengthOf, ageAtRelease, ageOf, largest, least}
 use Rattle.path_sums.specs.declared.Walk.{Walk}
 use Rattle.path_sums.specs.Sums.{Sums, leastWith, withPath}
 
@@ -50,11 +50,11 @@ module _ (chain : Chain) (found : List ℕ) (walk : Walk) (sums : Sums chain fou
     unfolding lengthOf
     own-length = rw ends
 
-    own-age : firstPeriod chain + next - walk .start ≡ ageOf chain (walk .start)
-    unfolding ageOf
+    own-age : firstPeriod chain + next - walk .start + lastPeriod chain ≡ ageOf chain (walk .start)
+    unfolding ageOf ageAtRelease
     own-age = rw next-ends
 
-    pub sums-more : Sums chain (found ++ walk .start ∷ []) (withPath walk (firstPeriod chain) next)
+    pub sums-more : Sums chain (found ++ walk .start ∷ []) (withPath walk (firstPeriod chain) (lastPeriod chain) next)
     sums-more =
         let b = walk .start in
         record {

@@ -1,4 +1,4 @@
-// What is counted of the basic paths of a chain (document 01, Age of a chain).
+// What is counted of the basic paths of a chain (document 01, Age of a chain; document 02, C-11).
 ghost use mathlib.Core.Path.{_≡_};
 ghost use Prim.Native.Nat.{max, _+_, _<_, _≤_, _^_};
 ghost use Rattle.path_sums.specs.Sums.{leastWith, withPath, movedTo};
@@ -33,12 +33,15 @@ fn least_with(paths: u32, best: u32, age: u32) -> u32
     if best < age { best } else { age }
 }
 
-// One path more: the start that the walk has come to, where the next start has the end `next`.
-pub fn with_path(walk: Walk, period: u32, next: u32) -> Walk
-    requires { ⌜ (walk .start ≤ walk .end) × (walk .end ≤ next) × (period + next < 2 ^ 32) × (walk .paths ≤ 1000000) ⌝ }
-    ensures { λ r. ⌜ r ≡ withPath walk period next ⌝ }
+// One path more: the start that the walk has come to, where the next start has the end `next`, of a chain with the first
+// period `period` and the last period `last`. Its age goes on from the last task's release to the valve, a period later.
+pub fn with_path(walk: Walk, period: u32, last: u32, next: u32) -> Walk
+    requires { ⌜ (walk .start ≤ walk .end) × (walk .end ≤ next) × (period + next + last < 2 ^ 32)
+        × (walk .paths ≤ 1000000) ⌝ }
+    ensures { λ r. ⌜ r ≡ withPath walk period last next ⌝ }
 {
-    let age = period + next - walk.start;
+    let released = period + next - walk.start;
+    let age = released + last;
     Walk {
         instant: walk.instant,
         start: walk.start,

@@ -1,6 +1,6 @@
 -- How many paths are counted once starts have been published: none more where they have the same end as the one before
 -- them, and else one more. No contract cites this file. Assumes nothing.
-use Prim.Native.Nat.{ℕ, suc, _<_, _≤_, min}
+use Prim.Native.Nat.{ℕ, suc, _-_, _<_, _≤_, min}
 use mathlib.Core.Path.{_≡_, refl, sym, ap, _∙_}
 use mathlib.Core.Logic.{by-cases}
 use mathlib.Core.List.{List}
@@ -10,8 +10,9 @@ use lib.ListN.{getD}
 use Rattle.times.specs.Releases.{every, release}
 use Rattle.times.proofs.Releases.{release-number}
 use Rattle.times.proofs.ReleaseNumbers.{release-next}
-use Rattle.ages.specs.Ages.{endOf, isBasic}
+use Rattle.ages.specs.Ages.{lastPeriod, endOf, isBasic}
 use Rattle.following.specs.Following.{chainBy}
+use Rattle.following.proofs.Chains.{chain-last}
 use Rattle.path_sums.specs.declared.Walk.{Walk}
 use Rattle.path_sums.specs.Sums.{Sums, withPath, movedTo}
 use Rattle.paths.specs.Walks.{pathsBelow, starts, Walks, Walking}
@@ -92,7 +93,8 @@ module _ (periods : List ℕ) {count at round : ℕ} {walk : Walk} (walking : Wa
 
     -- and with a later one: a basic path more
     pub new-path : ¬ (nextEnd periods walking ≡ walk .end)
-        → Walks periods count at round (moved (withPath walk (getD periods 0 0) (nextEnd periods walking)))
+        → Walks periods count at round
+        (moved (withPath walk (getD periods 0 0) (getD periods (count - 1) 0) (nextEnd periods walking)))
     new-path later =
         let chain = chainBy periods count in
         let first = every (getD periods 0 0) in
@@ -105,4 +107,6 @@ module _ (periods : List ℕ) {count at round : ℕ} {walk : Walk} (walking : Wa
         counted-before in
         let one = paths-more chain number (ap (isBasic chain) (walks .numbered) ∙ basic .0) in
         let more = sums-more chain _ walk (rw (counted-more .0) at (walks .sums)) _ (walks .end) (basic .1) in
-        walks-on (withPath walk (getD periods 0 0) (nextEnd periods walking)) (rw (none, one, walks .numbered) more)
+        rw (← chain-last periods count)
+        (walks-on (withPath walk (getD periods 0 0) (lastPeriod chain) (nextEnd periods walking))
+        (rw (none, one, walks .numbered) more))

@@ -1,5 +1,5 @@
 -- What the task publishes next is taken, unless the round is over. No contract cites this file. Assumes nothing.
-use Prim.Native.Nat.{ℕ, _+_, _<_, _≤_, _^_}
+use Prim.Native.Nat.{ℕ, _+_, _-_, _<_, _≤_, _^_}
 use mathlib.Core.Path.{_≡_, refl, sym, ap, subst, _∙_}
 use mathlib.Core.List.{List}
 use native.Mathlib.Omega.{arith}
@@ -75,19 +75,20 @@ module _ (periods : List ℕ) {count at round : ℕ} {walk : Walk} {instant star
             (same-walk periods count at round walk _ _ _ _ _ _ is-next is-start is-end
             (same-end periods walking other-start (sym is-end ∙ same)))
 
-        pub may-count : (walk .start ≤ walk .end) × (walk .end ≤ end) × (getD periods 0 0 + end < 2 ^ 32)
-            × (walk .paths ≤ 1000000)
+        pub may-count : (walk .start ≤ walk .end) × (walk .end ≤ end)
+            × (getD periods 0 0 + end + getD periods (count - 1) 0 < 2 ^ 32) × (walk .paths ≤ 1000000)
         may-count = rw is-end (path-fits periods walking other-start)
 
         -- a basic path
+        abbrev pub counting : ℕ → Walk
+        counting next = withPath walk (getD periods 0 0) (getD periods (count - 1) 0) next
+
         pub path-taken : ¬ (end ≡ walk .end)
-            → Taken periods count at round walk instant (movedTo (withPath walk (getD periods 0 0) end) instant start end)
+            → Taken periods count at round walk instant (movedTo (counting end) instant start end)
         path-taken later =
-            gone-on (withPath walk (getD periods 0 0) end) start end
-            (subst (λ e. Walks periods count at round (movedTo (withPath walk (getD periods 0 0) e) instant start e))
-            (sym is-end)
-            (same-walk periods count at round (withPath walk (getD periods 0 0) (nextEnd periods walking)) _ _ _ _ _ _
-            is-next is-start refl
+            gone-on (counting end) start end
+            (subst (λ e. Walks periods count at round (movedTo (counting e) instant start e)) (sym is-end)
+            (same-walk periods count at round (counting (nextEnd periods walking)) _ _ _ _ _ _ is-next is-start refl
             (new-path periods walking other-start (λ same. later (is-end ∙ same)))))
 
 -- after one instant the next, one period later

@@ -1,6 +1,6 @@
 -- From one release of a task of the chain to its next: no start is published, or starts with the same end. No contract
 -- cites this file. Assumes nothing.
-use Prim.Native.Nat.{ℕ, suc, _+_, _<_, _≤_, _^_}
+use Prim.Native.Nat.{ℕ, suc, _+_, _-_, _<_, _≤_, _^_}
 use mathlib.Core.Path.{_≡_, refl, sym, ap, _∙_}
 use mathlib.Core.Bool.{true}
 use mathlib.Core.List.{List}
@@ -112,14 +112,15 @@ module _ (periods : List ℕ) {count at round : ℕ} {walk : Walk} (walking : Wa
         )
 
     -- its length and its age are numbers that fit
-    pub path-fits : (walk .start ≤ walk .end) × (walk .end ≤ nextEnd) × (getD periods 0 0 + nextEnd < 2 ^ 32)
-        × (walk .paths ≤ 1000000)
+    pub path-fits : (walk .start ≤ walk .end) × (walk .end ≤ nextEnd)
+        × (getD periods 0 0 + nextEnd + getD periods (count - 1) 0 < 2 ^ 32) × (walk .paths ≤ 1000000)
     path-fits =
         let right = walking .right in
         let soon = end-from-soon periods (right .right) (right .some) (walking .inside) nextInstant in
-        let first = right .right .each 0 (omega (arith, walking .inside)) in (
+        let first = right .right .each 0 (omega (arith, walking .inside)) in
+        let last = right .right .each (count - 1) (omega (arith, walking .inside)) in (
           end-after periods walking,
           no-earlier,
-          omega (arith, soon, first, near nextInstant (omega (arith, period-small))),
+          omega (arith, soon, first, last, near nextInstant (omega (arith, period-small))),
           few-paths periods walking,
         )

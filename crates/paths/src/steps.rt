@@ -12,9 +12,17 @@ use path_sums::with_path;
 // What the task publishes next, at `instant`: the last start that it has then published, and that start's end. The starts
 // after the one that the walk has come to have all the same end; so that one is a basic path where it ends earlier, and
 // none of them but the last may be one. Past the round nothing is taken.
-fn take(periods: &[u32; 32], round: u32, walk: Walk, instant: u32, start: u32, end: u32) -> Walk
-    requires { ⌜ ((count : ℕ) × (at : ℕ) × Taking (now periods) count at round walk instant start end) ⌝ }
-    ensures { λ r. ⌜ ((count at : ℕ) → Taking (now (periods .entry)) count at round walk instant start end
+fn take(
+    periods: &[u32; 32],
+    count: usize,
+    round: u32,
+    walk: Walk,
+    instant: u32,
+    start: u32,
+    end: u32,
+) -> Walk
+    requires { ⌜ ((at : ℕ) × Taking (now periods) count at round walk instant start end) ⌝ }
+    ensures { λ r. ⌜ ((at : ℕ) → Taking (now (periods .entry)) count at round walk instant start end
         → Taken (now (periods .entry)) count at round walk instant r) ⌝ }
 {
     if round <= walk.start {
@@ -26,7 +34,7 @@ fn take(periods: &[u32; 32], round: u32, walk: Walk, instant: u32, start: u32, e
     if end == walk.end {
         return moved_to(walk, instant, start, end);
     }
-    let counted = with_path(walk, periods[0], end);
+    let counted = with_path(walk, periods[0], periods[count - 1], end);
     moved_to(counted, instant, start, end)
 }
 
@@ -52,8 +60,8 @@ pub(crate) fn step(
     let instants = Four { a, b, c, d };
     let starts = last_start(periods, factors, shifts, at, instants);
     let ends = end_from(periods, factors, shifts, at, count, instants);
-    let first = take(periods, round, walk, a, starts.a, ends.a);
-    let second = take(periods, round, first, b, starts.b, ends.b);
-    let third = take(periods, round, second, c, starts.c, ends.c);
-    take(periods, round, third, d, starts.d, ends.d)
+    let first = take(periods, count, round, walk, a, starts.a, ends.a);
+    let second = take(periods, count, round, first, b, starts.b, ends.b);
+    let third = take(periods, count, round, second, c, starts.c, ends.c);
+    take(periods, count, round, third, d, starts.d, ends.d)
 }

@@ -1,6 +1,7 @@
 -- DEMAND 2, continued: the ages of a chain of an accepted table are those of its real paths, in whatever round they
--- lie. To be read before: ages/specs/Ages and Paths (under crates/). Assumes nothing.
-use Prim.Native.Nat.{ℕ, _+_, _*_, _≤_, _<_}
+-- lie, measured at the valve (document 02, C-11). To be read before: ages/specs/Ages and Paths (under crates/). Assumes
+-- nothing.
+use Prim.Native.Nat.{ℕ, _+_, _-_, _*_, _≤_, _<_}
 use mathlib.Core.Path.{_≡_}
 use mathlib.Core.List.{List}
 use lib.ListN.{length, getD}
@@ -8,14 +9,15 @@ use Rattle.outcomes.specs.Outcome.{gives}
 use Rattle.table.specs.Image.{Whole, readImage}
 use Rattle.table.specs.Table.{chainOf}
 use Rattle.table.proofs.MeetsRules.{accepted-meets-rules}
-use Rattle.ages.specs.Ages.{Chain, endOf, lengthOf, ageOf, roundOf, basicPaths, agesOf, chainTimings}
-use Rattle.ages.specs.Paths.{Counted, Path}
+use Rattle.ages.specs.Ages.{Chain, lastPeriod, endOf, lengthOf, ageOf, roundOf, basicPaths, agesOf, chainTimings}
+use Rattle.ages.specs.Paths.{Counted, Path, worstAtRelease, bestAtRelease}
 use Rattle.ages.proofs.Rising.{Timed, end-rises, end-at-least}
 use Rattle.ages.proofs.Repeats.{end-repeats}
 use Rattle.ages.proofs.Counted as counted
 use Rattle.ages.proofs.Once.{starts-rise}
 use Rattle.ages.proofs.Reached as reached
 use Rattle.ages.proofs.OfTable.{chain-timed}
+use Rattle.ages.proofs.Valve as valve
 use Rattle.questions.proofs.ages.Met as asked-ages-met
 use Rattle.questions.proofs.ages.Statement as asked-ages
 
@@ -87,3 +89,14 @@ module _ (image : List ℕ) (whole : Whole) (accepted : readImage image ≡ give
   -- "jitter (worst minus best)": nothing is cut off.
   pub best-no-more-than-worst : agesOf chain .best ≤ agesOf chain .worst
   best-no-more-than-worst = reached.best-at-most-worst chain timed
+
+  -- "the valve moves one period of that task later": beside document 01's ages, which stop at the last task's release, the
+  -- worst and the best are each larger by the last task's period, and the jitter is the same.
+  pub worst-at-the-valve : agesOf chain .worst ≡ worstAtRelease chain + lastPeriod chain
+  worst-at-the-valve = valve.worst-later chain timed
+
+  pub best-at-the-valve : agesOf chain .best ≡ bestAtRelease chain + lastPeriod chain
+  best-at-the-valve = valve.best-later chain timed
+
+  pub jitter-is-that-at-the-release : agesOf chain .jitter ≡ worstAtRelease chain - bestAtRelease chain
+  jitter-is-that-at-the-release = valve.jitter-stays chain timed

@@ -10,8 +10,8 @@ use Rattle.lists.proofs.All.{All, all-also}
 use Rattle.lists.proofs.Each.{length-each-below, length-only-if}
 use Rattle.times.specs.Releases.{Timing, jobEnd, firstFrom, release}
 use Rattle.times.proofs.Releases.{firstFrom-near}
-use Rattle.ages.specs.Ages.{Chain, Ages, firstPeriod, follow, endOf, isBasic, lengthOf, ageOf, roundOf, basicPaths}
-use Rattle.ages.specs.Ages.{agesOf}
+use Rattle.ages.specs.Ages.{Chain, Ages, firstPeriod, lastTask, lastPeriod, follow, endOf, isBasic, lengthOf}
+use Rattle.ages.specs.Ages.{ageAtRelease, ageOf, roundOf, basicPaths, agesOf}
 use Rattle.ages.proofs.Rising.{HasPeriod, Timed}
 use Rattle.ages.proofs.Reached.{worst-reached, best-reached, longest-reached}
 
@@ -35,6 +35,13 @@ follow-near (middle ∷ next ∷ more) small t =
       follow-near (next ∷ more) (small .1) (taken + middle .period),
     )
 
+-- and so is the task a chain ends with
+last-small : (task : Timing) (tasks : List Timing) → Small task → All Small tasks
+    → lastTask task tasks .period ≤ 1000000
+unfolding lastTask
+last-small task [] small others = small .1
+last-small task (next ∷ more) small others = last-small next more (others .0) (others .1)
+
 -- the five numbers of a chain's line
 pub record NumbersSmall (ages : Ages) : Type 0 where
   pub paths : ages .paths < 10 ^ 8
@@ -57,10 +64,12 @@ module _ (chain : Chain) (small : SmallChain chain) where
       let few = small .few in
       omega (arith, follow-near (chain .others) (small .others-small) t)
 
-  age-small : (t : ℕ) → ageOf chain t ≤ 16000000
-  unfolding ageOf
+  age-small : (t : ℕ) → ageOf chain t ≤ 17000000
+  unfolding ageOf ageAtRelease
   age-small t =
       let period = small .first-small .1 in
+      let last : lastPeriod chain ≤ 1000000 =
+      last-small (chain .first) (chain .others) (small .first-small) (small .others-small) in
       omega (arith, end-near (t + firstPeriod chain))
 
   length-small : (t : ℕ) → lengthOf chain t ≤ 14000000

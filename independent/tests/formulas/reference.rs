@@ -108,12 +108,13 @@ pub fn ages_of(periods: &[u64], error: Option<Error>) -> Ages {
     let own_hyperperiod = periods.iter().fold(1, |common, &period| lcm(common, period));
     let mut lengths = Vec::new();
     let mut ages = Vec::new();
+    let last_period = periods[periods.len() - 1];
     for start in (0..own_hyperperiod).step_by(periods[0] as usize) {
         let end = end_of(periods, start, error);
         let next_end = end_of(periods, start + periods[0], error);
         if end < next_end {
             lengths.push(end - start);
-            ages.push(periods[0] + next_end - start);
+            ages.push(periods[0] + next_end - start + last_period);
         }
     }
     let worst = *ages.iter().max().unwrap();

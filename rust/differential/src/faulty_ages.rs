@@ -40,12 +40,12 @@ fn end_of(periods: &[u64], start: u64, waits: fn(u64) -> u64) -> u64 {
 /// The ages of some periods where a start counts by its end and the next one's.
 fn by_rule(periods: &[u64], counts: fn(u64, u64) -> bool, waits: fn(u64) -> u64) -> [u64; 5] {
     let round = hyperperiod(periods.iter().copied()).expect("the table's H is a multiple");
-    let first = periods[0];
+    let [first, last] = [periods[0], periods[periods.len() - 1]];
     let [mut paths, mut longest, mut worst, mut best] = [0, 0, 0, u64::MAX];
     for start in (0..round).step_by(first as usize) {
         let [end, next] = [start, start + first].map(|start| end_of(periods, start, waits));
         if counts(end, next) {
-            let age = first + next - start;
+            let age = first + next - start + last;
             paths += 1;
             longest = longest.max(end - start);
             worst = worst.max(age);
@@ -75,6 +75,21 @@ pub fn faulty_ages() -> Vec<Program> {
         }),
         values("ages without T1", |[paths, longest, worst, best, jitter], periods, _| {
             [paths, longest, worst - periods[0], best - periods[0], jitter]
+        }),
+        values("the last period left out", |[paths, longest, worst, best, jitter], periods, _| {
+            let last = periods[periods.len() - 1];
+            [paths, longest, worst - last, best - last, jitter]
+        }),
+        values("T1 for the last period", |[paths, longest, worst, best, jitter], periods, _| {
+            let [first, last] = [periods[0], periods[periods.len() - 1]];
+            [paths, longest, worst - last + first, best - last + first, jitter]
+        }),
+        values("the last period in worst", |[paths, longest, worst, best, jitter], periods, _| {
+            let last = periods[periods.len() - 1];
+            [paths, longest, worst, best - last, jitter + last]
+        }),
+        values("the last period in long", |[paths, longest, worst, best, jitter], periods, _| {
+            [paths, longest + periods[periods.len() - 1], worst, best, jitter]
         }),
         values("the length for the age", |[paths, longest, _, best, _], _, _| {
             [paths, longest, longest, best, longest.abs_diff(best)]

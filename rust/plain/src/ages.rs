@@ -1,4 +1,4 @@
-//! The ages of a chain: document 01, "Age of a chain". By one way along the releases of the chain's
+//! The ages of a chain: document 01, "Age of a chain"; document 02, C-11. By one way along the releases of the chain's
 //! slowest task, by another through every start.
 
 use crate::along::{Along, Task, TOGETHER};
@@ -16,16 +16,18 @@ pub struct Ages {
 
 /// A start with its end, and the paths before it.
 struct Paths {
-    first_period: u32,
+    /// The first period and the last: an age is counted from a first period before the start to the
+    /// valve, a last period after the end.
+    both_periods: u32,
     start: u32,
     end: u32,
     ages: Ages,
 }
 
 impl Paths {
-    fn new(first_period: u32, start: u32, end: u32) -> Paths {
+    fn new(both_periods: u32, start: u32, end: u32) -> Paths {
         let ages = Ages { paths: 0, longest: 0, worst: 0, best: u32::MAX, jitter: 0 };
-        Paths { first_period, start, end, ages }
+        Paths { both_periods, start, end, ages }
     }
 
     /// Goes on to a later start, or to the same one, with the end that belongs to it if it is later.
@@ -34,7 +36,7 @@ impl Paths {
     fn take(&mut self, start: u32, end: u32) {
         let later = start != self.start;
         let basic = later && end != self.end;
-        let age = self.first_period + end - self.start;
+        let age = self.both_periods + end - self.start;
         let ages = &mut self.ages;
         ages.paths += u32::from(basic);
         ages.longest = ages.longest.max(if basic { self.end - self.start } else { 0 });
@@ -81,7 +83,7 @@ pub fn ages(image: &[u8], chain: u64) -> Result<Ages, Refusal> {
     let begun = |tick, task: &Task| task.first_from(tick) + task.waits;
     let mut release = rest[0].first_from(before.iter().skip(1).fold(0, begun));
     let ([start], [end]) = along.from(release);
-    let mut paths = Paths::new(periods[0], start, end);
+    let mut paths = Paths::new(periods[0] + periods[tasks - 1], start, end);
     let period = periods[slowest];
     let mut left = round / period;
     while left >= TOGETHER {
@@ -113,7 +115,7 @@ pub fn ages_by_every_start(image: &[u8], chain: u64) -> Result<Ages, Refusal> {
         }
         tick - last
     };
-    let mut paths = Paths::new(first, 0, end_of(0));
+    let mut paths = Paths::new(first + last, 0, end_of(0));
     for start in (first..=round).step_by(first as usize) {
         paths.take(start, end_of(start));
     }

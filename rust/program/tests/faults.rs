@@ -17,7 +17,7 @@ fn differs(script: &str) -> bool {
 }
 
 const LINES: &str = "printf 'hyperperiod 10\\ncore 0\\n0 W0\\n4 W0\\ncore 1\\n0 R0:1\\n5 R0:1\\n\
-                     chain 0 paths 2 long 1 worst 8 best 7 jitter 1\\n'";
+                     chain 0 paths 2 long 1 worst 13 best 12 jitter 1\\n'";
 
 #[test]
 fn wrong_programs() {
@@ -28,7 +28,8 @@ fn wrong_programs() {
     for further in ["; printf ' '", "; false", "; kill -9 $$", "; echo oh >&2"] {
         assert!(differs(&format!("{LINES}{further}")), "{further} was not noticed");
     }
-    for (from, to) in [("W0", "W1"), ("8", "9"), ("\\n'", "'"), ("5 R", "5  R"), ("core 1", "core")]
+    for (from, to) in
+        [("W0", "W1"), ("13", "8"), ("\\n'", "'"), ("5 R", "5  R"), ("core 1", "core")]
     {
         assert!(differs(&LINES.replacen(from, to, 1)), "{to} was not noticed");
     }

@@ -25,7 +25,7 @@ pub struct Points {
     pub reading: u64,
 }
 
-/// The ages of a chain, in ticks, and how many basic paths it has.
+/// The ages of a chain, in ticks up to the valve, and how many basic paths it has.
 #[derive(Debug, Clone, Copy, PartialEq, Eq)]
 pub struct Ages {
     pub paths: u32,

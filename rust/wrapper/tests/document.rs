@@ -130,10 +130,10 @@ fn of_chain(periods: &[u32]) -> Vec<u8> {
 #[test]
 fn the_ages_of_a_chain() {
     for (image, [paths, longest, worst, best, jitter]) in [
-        (EXAMPLE.to_vec(), [2, 1, 8, 7, 1]),
-        (of_chain(&[3, 7, 3]), [3, 9, 21, 18, 3]),
-        (of_chain(&[5, 10, 20]), [1, 10, 35, 35, 0]),
-        (of_chain(&[5, 2]), [2, 1, 11, 10, 1]),
+        (EXAMPLE.to_vec(), [2, 1, 13, 12, 1]),
+        (of_chain(&[3, 7, 3]), [3, 9, 24, 21, 3]),
+        (of_chain(&[5, 10, 20]), [1, 10, 55, 55, 0]),
+        (of_chain(&[5, 2]), [2, 1, 13, 12, 1]),
     ] {
         assert_eq!(ages(&image, 0), Ok(Ages { paths, longest, worst, best, jitter }));
         assert_eq!(ages(&image, 1), refused(12, 0));

@@ -11,8 +11,9 @@ pub with-path-spec : {M : Type 1} → statement M
 with-path-spec =
     tie.close
     (tie.spec
+    (λ c. search needs)  -- add-released
+    (λ c. search needs)  -- sub-released
     (λ c. search needs)  -- add-age
-    (λ c. search needs)  -- sub-age
     (λ c. search needs)  -- add-t5
     (λ c. search needs)  -- sub-larger
     (λ c κs. search needs)  -- larger-requires

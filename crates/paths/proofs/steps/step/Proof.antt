@@ -50,7 +50,7 @@ takes-a c = record {
 }
 
 took-a : (c : tie.After-take) → Took (c .before) (start (c .before) .args .walk) (instants (c .before) .a) (c .take .result)
-took-a c = c .take .ensures _ _ (takes-a (c .before))
+took-a c = c .take .ensures _ (takes-a (c .before))
 
 takes-b : (c : tie.After-take)
     → let found = c .before in
@@ -63,7 +63,7 @@ takes-b c =
 took-b : (c : tie.After-take2)
     → let found = c .before .before in
     Took found (c .before .take .result) (instants found .b) (c .take2 .result)
-took-b c = c .take2 .ensures _ _ (takes-b (c .before))
+took-b c = c .take2 .ensures _ (takes-b (c .before))
 
 takes-c : (c : tie.After-take2)
     → let found = c .before .before in
@@ -76,7 +76,7 @@ takes-c c =
 took-c : (c : tie.After-take3)
     → let found = c .before .before .before in
     Took found (c .before .take2 .result) (instants found .c) (c .take3 .result)
-took-c c = c .take3 .ensures _ _ (takes-c (c .before))
+took-c c = c .take3 .ensures _ (takes-c (c .before))
 
 takes-d : (c : tie.After-take3)
     → let found = c .before .before .before in
@@ -89,7 +89,7 @@ takes-d c =
 returns : tie.Need-returns
 returns c =
     let third = c .before in
-    let took-d = c .take4 .ensures _ _ (takes-d third) in
+    let took-d = c .take4 .ensures _ (takes-d third) in
     let found = third .before .before .before in (
       took-d .walks,
       omega (
@@ -113,8 +113,8 @@ step-spec =
     (λ c. omega (arith, near-four _ (c .before .before .pre .0)))  -- add-d
     last-start-requires
     (λ c κs. (c .before .before .before .pre .1, four-pass-on _ (c .before .before .before .pre .0)))  -- end-from-requires
-    (λ c κs. (_, _, takes-a c))  -- take-requires
-    (λ c κs. (_, _, takes-b c))  -- take-requires-2
-    (λ c κs. (_, _, takes-c c))  -- take-requires-3
-    (λ c κs. (_, _, takes-d c))  -- take-requires-4
+    (λ c κs. (_, takes-a c))  -- take-requires
+    (λ c κs. (_, takes-b c))  -- take-requires-2
+    (λ c κs. (_, takes-c c))  -- take-requires-3
+    (λ c κs. (_, takes-d c))  -- take-requires-4
     returns)
