@@ -47,7 +47,7 @@ isBasic chain t = ltb (endOf chain t) (endOf chain (t + firstPeriod chain))
 unfoldable pub lengthOf : Chain → ℕ → ℕ
 lengthOf chain t = endOf chain t - t
 
--- "Its age is T1 + E(t + T1) − t": so far it goes to the release of the last task
+-- "Its age is T1 + E(t + T1) − t", which stops at the release of the last task
 unfoldable pub ageAtRelease : Chain → ℕ → ℕ
 ageAtRelease chain t = firstPeriod chain + endOf chain (t + firstPeriod chain) - t
 

@@ -24,15 +24,16 @@ use Rattle.cases.specs.Kinds.{AllHold, none, _also_, Holds}
 use Rattle.cases.specs.Further.{further}
 
 pub further-cases-hold : AllHold further
-unfolding Holds someBelow eachBelow eachOf padded bitCount bitAt fieldAt bitsOf bitsOfAll formedBy
-    bytesOf bytesFor packed release isRelease jobEnd firstFrom gcdIn gcd lcm lcmFrom lcmOf publishing reading
-    isPublishing isReading publishesAt servesAt field foundAt inRow check zeroBits nothingFollows coreOf periodOf timingOf writerOf
-    marks reads joins chainOf hyperperiodOf between headFields taskFields rightReaders labelFields tableOf
-    rowsOf stepHolds chainTask chainFields fill allFields wholeFields readImage answerOf written served
-    writesAt readsAt copiesAt framesAt framesOf copyFields frameFields listingFields listingOf listedPlan fullPlan
-    follow endOf isBasic lengthOf lastTask ageAtRelease ageOf roundOf basicPaths largest least worstAge bestAge agesOf chainTimings
-    agesOfChain pointsOf points coreListed listing lentAfter bytesListed ages digitsIn decimal named copyText frameText coreText
-    chainText wholeText printable textOf printed
+unfolding Holds someBelow eachBelow eachOf padded bitCount bitAt fieldAt bitsOf bitsOfAll formedBy bytesOf
+    bytesFor packed release isRelease jobEnd firstFrom gcdIn gcd lcm lcmFrom lcmOf publishing reading
+    isPublishing isReading publishesAt servesAt field foundAt inRow check zeroBits nothingFollows coreOf
+    periodOf timingOf writerOf marks reads joins chainOf hyperperiodOf between headFields taskFields
+    rightReaders labelFields tableOf rowsOf stepHolds chainTask chainFields fill allFields wholeFields readImage
+    answerOf written served writesAt readsAt copiesAt framesAt framesOf copyFields frameFields listingFields
+    listingOf listedPlan fullPlan follow endOf isBasic lengthOf lastTask ageAtRelease ageOf roundOf basicPaths
+    largest least worstAge bestAge agesOf chainTimings agesOfChain pointsOf points coreListed listing lentAfter
+    bytesListed ages digitsIn decimal named copyText frameText coreText chainText wholeText printable textOf
+    printed
 further-cases-hold =
     refl also refl also refl also refl also refl also refl also refl also refl also refl also refl
     also refl also refl also refl also refl also refl also refl also refl also refl also refl also refl

@@ -26,12 +26,12 @@ use Rattle.printing.specs.Printed.{copyText, frameText, coreText, chainText, wh
 
 pub printed-example : printed example ≡ exampleText
 unfolding someBelow eachBelow eachOf padded bitCount bitAt fieldAt bitsOf bitsOfAll formedBy bytesOf bytesFor
-    packed release jobEnd firstFrom gcdIn gcd lcm lcmFrom lcmOf publishing reading isPublishing
-    isReading publishesAt servesAt field foundAt inRow check zeroBits nothingFollows coreOf periodOf timingOf writerOf marks reads joins
-    hyperperiodOf between headFields taskFields rightReaders labelFields tableOf rowsOf stepHolds
-    chainTask chainFields fill allFields wholeFields readImage answerOf written served writesAt readsAt
-    copiesAt framesAt framesOf copyFields frameFields listingFields listingOf follow endOf isBasic
-    lengthOf lastTask ageAtRelease ageOf roundOf basicPaths largest least worstAge bestAge agesOf coreListed listing chainOf agesOfChain
-    chainTimings digitsIn decimal named copyText frameText coreText chainText wholeText printable textOf
-    printed
+    packed release jobEnd firstFrom gcdIn gcd lcm lcmFrom lcmOf publishing reading isPublishing isReading
+    publishesAt servesAt field foundAt inRow check zeroBits nothingFollows coreOf periodOf timingOf writerOf
+    marks reads joins hyperperiodOf between headFields taskFields rightReaders labelFields tableOf rowsOf
+    stepHolds chainTask chainFields fill allFields wholeFields readImage answerOf written served writesAt
+    readsAt copiesAt framesAt framesOf copyFields frameFields listingFields listingOf follow endOf isBasic
+    lengthOf lastTask ageAtRelease ageOf roundOf basicPaths largest least worstAge bestAge agesOf coreListed
+    listing chainOf agesOfChain chainTimings digitsIn decimal named copyText frameText coreText chainText
+    wholeText printable textOf printed
 printed-example = refl

@@ -22,13 +22,14 @@ use Rattle.cases.specs.Kinds.{AllHold, none, _also_, Holds}
 use Rattle.cases.specs.Starred.{starred}
 
 pub starred-cases-hold : AllHold starred
-unfolding Holds someBelow eachBelow eachOf padded bitCount bitAt fieldAt bitsOf bitsOfAll formedBy
-    bytesOf bytesFor packed release jobEnd firstFrom gcdIn gcd lcm lcmFrom lcmOf publishing reading
-    isPublishing isReading publishesAt servesAt field foundAt inRow check zeroBits nothingFollows coreOf periodOf timingOf writerOf
-    marks reads joins hyperperiodOf between headFields taskFields rightReaders labelFields tableOf
-    rowsOf stepHolds chainTask chainFields fill allFields wholeFields readImage answerOf written served
-    writesAt readsAt copiesAt framesAt framesOf copyFields frameFields listingFields listingOf follow
-    endOf isBasic lengthOf lastTask ageAtRelease ageOf roundOf basicPaths largest least worstAge bestAge agesOf coreListed listing hyperperiod
+unfolding Holds someBelow eachBelow eachOf padded bitCount bitAt fieldAt bitsOf bitsOfAll formedBy bytesOf
+    bytesFor packed release jobEnd firstFrom gcdIn gcd lcm lcmFrom lcmOf publishing reading isPublishing
+    isReading publishesAt servesAt field foundAt inRow check zeroBits nothingFollows coreOf periodOf timingOf
+    writerOf marks reads joins hyperperiodOf between headFields taskFields rightReaders labelFields tableOf
+    rowsOf stepHolds chainTask chainFields fill allFields wholeFields readImage answerOf written served writesAt
+    readsAt copiesAt framesAt framesOf copyFields frameFields listingFields listingOf follow endOf isBasic
+    lengthOf lastTask ageAtRelease ageOf roundOf basicPaths largest least worstAge bestAge agesOf coreListed
+    listing hyperperiod
 starred-cases-hold =
     refl also refl also refl also refl also refl also refl also refl also refl also refl also refl
     also refl also refl also refl also none

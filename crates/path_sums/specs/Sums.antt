@@ -19,16 +19,16 @@ pub record Sums (chain : Chain) (found : List ℕ) (walk : Walk) : Type 0 where
   pub best : walk .best ≡ least (map (ageOf chain) found)
 
 -- the walk with one path more: the one that starts and ends where the walk has come to, the next start having that end;
--- of a chain with this first period and this last
-abbrev pub withPath : Walk → (period last next : ℕ) → Walk
-withPath walk period last next = record {
+-- of a chain with this first period and this last one
+abbrev pub withPath : Walk → (first last next : ℕ) → Walk
+withPath walk first last next = record {
   instant = walk .instant;
   start = walk .start;
   end = walk .end;
   paths = walk .paths + 1;
   longest = max (walk .longest) (walk .end - walk .start);
-  worst = max (walk .worst) (period + next - walk .start + last);
-  best = leastWith (walk .paths) (walk .best) (period + next - walk .start + last);
+  worst = max (walk .worst) (first + next - walk .start + last);
+  best = leastWith (walk .paths) (walk .best) (first + next - walk .start + last);
 }
 
 -- the walk that has come to another start, with the same sums

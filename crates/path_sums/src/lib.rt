@@ -34,13 +34,13 @@ fn least_with(paths: u32, best: u32, age: u32) -> u32
 }
 
 // One path more: the start that the walk has come to, where the next start has the end `next`, of a chain with the first
-// period `period` and the last period `last`. Its age goes on from the last task's release to the valve, a period later.
-pub fn with_path(walk: Walk, period: u32, last: u32, next: u32) -> Walk
-    requires { ⌜ (walk .start ≤ walk .end) × (walk .end ≤ next) × (period + next + last < 2 ^ 32)
+// period `first` and the last period `last`. Its age goes on from the last task's release to the valve, a period later.
+pub fn with_path(walk: Walk, first: u32, last: u32, next: u32) -> Walk
+    requires { ⌜ (walk .start ≤ walk .end) × (walk .end ≤ next) × (first + next + last < 2 ^ 32)
         × (walk .paths ≤ 1000000) ⌝ }
-    ensures { λ r. ⌜ r ≡ withPath walk period last next ⌝ }
+    ensures { λ r. ⌜ r ≡ withPath walk first last next ⌝ }
 {
-    let released = period + next - walk.start;
+    let released = first + next - walk.start;
     let age = released + last;
     Walk {
         instant: walk.instant,

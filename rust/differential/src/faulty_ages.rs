@@ -30,6 +30,11 @@ fn values(fault: &str, alter: impl Fn([u64; 5], &[u64], u64) -> [u64; 5] + 'stat
     })
 }
 
+/// The period of a chain's last task.
+fn last_of(periods: &[u64]) -> u64 {
+    periods[periods.len() - 1]
+}
+
 /// The end of a start, by the time from a middle task's release to what it publishes.
 fn end_of(periods: &[u64], start: u64, waits: fn(u64) -> u64) -> u64 {
     let (last, middle) = periods[1..].split_last().expect("a chain has two tasks");
@@ -40,7 +45,7 @@ fn end_of(periods: &[u64], start: u64, waits: fn(u64) -> u64) -> u64 {
 /// The ages of some periods where a start counts by its end and the next one's.
 fn by_rule(periods: &[u64], counts: fn(u64, u64) -> bool, waits: fn(u64) -> u64) -> [u64; 5] {
     let round = hyperperiod(periods.iter().copied()).expect("the table's H is a multiple");
-    let [first, last] = [periods[0], periods[periods.len() - 1]];
+    let [first, last] = [periods[0], last_of(periods)];
     let [mut paths, mut longest, mut worst, mut best] = [0, 0, 0, u64::MAX];
     for start in (0..round).step_by(first as usize) {
         let [end, next] = [start, start + first].map(|start| end_of(periods, start, waits));
@@ -77,19 +82,19 @@ pub fn faulty_ages() -> Vec<Program> {
             [paths, longest, worst - periods[0], best - periods[0], jitter]
         }),
         values("the last period left out", |[paths, longest, worst, best, jitter], periods, _| {
-            let last = periods[periods.len() - 1];
+            let last = last_of(periods);
             [paths, longest, worst - last, best - last, jitter]
         }),
         values("T1 for the last period", |[paths, longest, worst, best, jitter], periods, _| {
-            let [first, last] = [periods[0], periods[periods.len() - 1]];
+            let [first, last] = [periods[0], last_of(periods)];
             [paths, longest, worst - last + first, best - last + first, jitter]
         }),
         values("the last period in worst", |[paths, longest, worst, best, jitter], periods, _| {
-            let last = periods[periods.len() - 1];
+            let last = last_of(periods);
             [paths, longest, worst, best - last, jitter + last]
         }),
         values("the last period in long", |[paths, longest, worst, best, jitter], periods, _| {
-            [paths, longest + periods[periods.len() - 1], worst, best, jitter]
+            [paths, longest + last_of(periods), worst, best, jitter]
         }),
         values("the length for the age", |[paths, longest, _, best, _], _, _| {
             [paths, longest, longest, best, longest.abs_diff(best)]

@@ -1,5 +1,5 @@
-//! The ages of a chain: document 01, "Age of a chain"; document 02, C-11. By one way along the releases of the chain's
-//! slowest task, by another through every start.
+//! The ages of a chain: document 01, "Age of a chain"; document 02, C-11. By one way along the
+//! releases of the chain's slowest task, by another through every start.
 
 use crate::along::{Along, Task, TOGETHER};
 use crate::parts::hyperperiod;

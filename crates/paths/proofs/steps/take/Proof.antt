@@ -25,7 +25,7 @@ returns-3 c at taking =
     (end-kept (within .before .before .args .periods .now) taking (within .if1 .left) (other .if2 .left)
     (same .if3 .taken))
 
--- a path is counted: the chain has a task before this number
+-- where a path is counted, the chain is right: it has a last task
 right : (c : tie.After-with-path-arg)
     → let args = c .before .before .before .before .before .before .before .args in
     RightChain (args .periods .now) (args .count) (args .round)
