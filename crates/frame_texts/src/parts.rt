@@ -53,9 +53,6 @@ fn reads_of(bytes: &mut [u8], at: usize, label: u32, readers: u32, serves: u32) 
         (eachOf (readsDue readers serves label) copyText) ⌝ }
 {
     let served = readers & serves;
-    if served == 0 {
-        return at;
-    }
     let mut next = at;
     let mut r = next_reader(served, 0);
     while r < 32 {

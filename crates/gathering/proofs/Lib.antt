@@ -2,5 +2,4 @@
 pub mod Codes
 pub mod InArray
 pub mod Passed
-pub mod Rest
 pub mod Walk

@@ -48,7 +48,7 @@ fn store_pair(
     count
 }
 
-// The counters of one writer with the tasks of a mask, by rising task. What is left of the mask says when there is none.
+// The counters of one writer with the tasks of a mask, by rising task.
 pub(crate) fn store_pairs(
     reads: bool,
     core: u32,
@@ -64,13 +64,10 @@ pub(crate) fn store_pairs(
     ensures few { λ more. ⌜ more ≤ count + 32 ⌝ }
 {
     let mut more = count;
-    let mut rest = mask;
-    let mut from: u32 = 0;
-    while rest > 0 {
-        let r = next_reader(mask, from);
+    let mut r = next_reader(mask, 0);
+    while r < 32 {
         more = store_pair(reads, core, cores, w, r, counters, more);
-        rest -= 2147483648 >> r;
-        from = r + 1;
+        r = next_reader(mask, r + 1);
     }
     more
 }

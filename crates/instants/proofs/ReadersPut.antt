@@ -1,17 +1,15 @@
 -- The reads of a label put from reader to reader. No contract cites this file. Assumes nothing.
 use Prim.Native.Nat.{ℕ, _+_, _≤_, _<_}
 use mathlib.Core.Bool.{true}
-use mathlib.Core.Path.{_≡_, sym, ap, _∙_}
+use mathlib.Core.Path.{_≡_, ap}
 use mathlib.Core.List.{List, [], _∷_}
 use native.Mathlib.Omega.{arith}
 use lib.Bits.{bitAnd}
 use Rattle.lists.specs.Lists.{eachOf, eachBelow, onlyIf}
-use Rattle.lists.proofs.Bools.{false-unless-true}
-use Rattle.lists.proofs.Below.{each-below-same, each-below-less}
+use Rattle.lists.proofs.Below.{each-below-same}
 use Rattle.bits.specs.Packing.{bits}
 use Rattle.packing.specs.declared.Pen.{Pen}
 use Rattle.table.specs.Table.{marks}
-use Rattle.table.proofs.Sound.{none-marked}
 use Rattle.copies.specs.Copies.{read}
 use Rattle.copies.specs.Listing.{copyFields}
 use Rattle.instants.specs.Due.{readsDue}
@@ -69,11 +67,3 @@ module _ (readers serves label : ℕ) where
   reached-all {r = r} reached past =
       let end : r ≡ 32 = omega (arith, reached .within) in
       rw (← reads-met, ← end) (reached .put)
-
-  -- no reader is served
-  pub none-read : bitAnd readers serves ≡ 0 → readsDue readers serves label ≡ []
-  unfolding eachBelow
-  none-read none =
-      sym reads-met
-      ∙ each-below-less 0 32 (λ r. onlyIf (marks (bitAnd readers serves) r) (read label r)) (omega arith)
-      (λ r late known. rw (none, false-unless-true (marks 0 r) (none-marked r)))

@@ -41,9 +41,6 @@ fn reads_of(bytes: &mut [u8], pen: Pen, label: u32, readers: u32, serves: u32) -
     ensures { λ r. ⌜ PutsCopies (now (bytes .entry)) (now (bytes .exit)) pen r (readsDue readers serves label) ⌝ }
 {
     let served = readers & serves;
-    if served == 0 {
-        return pen;
-    }
     let mut last = pen;
     let mut r = next_reader(served, 0);
     while r < 32 {

@@ -1,3 +1,4 @@
 -- Laws of this crate.
 mod Below
 mod OneMore
+mod ReadMore

@@ -1,4 +1,4 @@
--- One label more, and one task more. No contract cites this file. Assumes nothing.
+-- One label more. No contract cites this file. Assumes nothing.
 use Prim.Native.Nat.{ℕ, suc, _+_, _-_, _/_, _^_, _<_, min}
 use mathlib.Core.Path.{_≡_, sym, ap, ap₂, _∙_}
 use mathlib.Core.Logic.{by-cases}
@@ -17,11 +17,11 @@ use Rattle.masks.specs.Masks.{holds}
 use Rattle.masks.proofs.Bitwise.{zero-holds, shifted-alone, one-more-holds}
 use Rattle.table.specs.Table.{marks}
 use Rattle.instants.specs.Due.{writerDue}
-use Rattle.label_masks.specs.LabelMasks.{WrittenLabels, Holds, ReadLabels}
-use Rattle.label_masks.proofs.Below.{below-same, below-with, below-without, none-below, same-labels, same-tasks}
+use Rattle.label_masks.specs.LabelMasks.{WrittenLabels}
+use Rattle.label_masks.proofs.Below.{below-with, below-without, none-below, same-labels}
 
 -- a mask with label l
-with-label : (mask l k : ℕ) → l < 64
+pub with-label : (mask l k : ℕ) → l < 64
     → holds 64 (bitOr mask (9223372036854775808 / 2 ^ l)) k ≡ (holds 64 mask k || eqb k l)
 with-label mask l k known =
     ap (λ bit. holds 64 (bitOr mask bit) k) (shifted-alone 64 l known) ∙ one-more-holds 64 mask l k known
@@ -30,7 +30,7 @@ one-bit : (l : ℕ) → l < 64 → 9223372036854775808 / 2 ^ l < 2 ^ 64
 one-bit l known = rw (shifted-alone 64 l known) (pow-lt {i = 64 - suc l} {j = 64} (omega arith))
 
 -- masks that hold nothing
-no-masks : (w : ℕ) → w < 32 → (l : ℕ) → holds 64 (getD (replicate 32 0) w 0) l ≡ false
+pub no-masks : (w : ℕ) → w < 32 → (l : ℕ) → holds 64 (getD (replicate 32 0) w 0) l ≡ false
 no-masks w known l = ap (λ mask. holds 64 mask l) (getD-replicate {A = ℕ} 32 w 0 0 known) ∙ zero-holds 64 l
 
 -- the labels that tasks write
@@ -73,46 +73,4 @@ module _ (writer : List ℕ) where
     few = written .few;
     has = λ w l known few.
         written .has w l known few ∙ ap (λ b. b && eqb (writerDue writer l) w) (same-labels labels l few);
-  }
-
--- the labels that tasks read
-module _ (readers : List ℕ) where
-  pub none-held : (r : ℕ) → Holds 0 readers r 0
-  none-held r = record { has = λ l few. zero-holds 64 l ∙ none-below l _ }
-
-  pub one-more-held : {l r mask : ℕ} → l < 64 → marks (getD readers l 0) r ≡ true → Holds l readers r mask
-      → Holds (l + 1) readers r (bitOr mask (9223372036854775808 / 2 ^ l))
-  one-more-held {l} {r} {mask} few marked held = record {
-    has = λ k below.
-        with-label mask l k few
-        ∙ rw (held .has k below) (below-with l k (marks (getD readers k 0) r) (λ here. rw here marked));
-  }
-
-  pub same-held : {l r mask : ℕ} → marks (getD readers l 0) r ≡ false → Holds l readers r mask
-      → Holds (l + 1) readers r mask
-  same-held {l} {r} unmarked held = record {
-    has = λ k below.
-        held .has k below ∙ below-without l k (marks (getD readers k 0) r) (λ here. rw here unmarked);
-  }
-
-  pub none-read : (labels : ℕ) → ReadLabels labels 0 readers (replicate 32 0)
-  none-read labels = record { has = λ r l known few. no-masks r known l ∙ none-below r _ }
-
-  pub one-more-read : {labels r mask : ℕ} {masks : List ℕ} → length masks ≡ 32 → r < 32
-      → Holds labels readers r mask → ReadLabels labels r readers masks
-      → ReadLabels labels (r + 1) readers (set masks r mask)
-  one-more-read {labels} {r} {mask} {masks} long known held read = record {
-    has = λ s l few below.
-        by-cases (ℕ-discrete s r)
-        (λ same. rw (same, getD-set-same masks r mask 0 (omega arith), lt-ltb r (r + 1) (omega arith)) (held .has l below))
-        (λ other. rw (getD-set-other masks r s mask 0 other)
-        (read .has s l few below ∙ below-same r s (ltb l labels && marks (getD readers l 0) s) other));
-  }
-
-  pub all-read : {labels tasks : ℕ} {masks : List ℕ} → ReadLabels (min labels 64) (min tasks 32) readers masks
-      → ReadLabels labels tasks readers masks
-  all-read {labels} {tasks} read = record {
-    has = λ r l known few.
-        read .has r l known few
-        ∙ ap₂ (λ a b. a && (b && marks (getD readers l 0) r)) (same-tasks tasks r known) (same-labels labels l few);
   }

@@ -2,10 +2,10 @@
 // The two masks of a writer and a reader have the labels in common that go from the one to the other.
 ghost use mathlib.Core.Path.{_≡_};
 ghost use Prim.Native.Nat.{_<_, _≤_};
-ghost use lib.ListN.{replicate};
-ghost use Rattle.label_masks.specs.LabelMasks.{Holds, ReadLabels, WrittenLabels};
+ghost use lib.ListN.{length, replicate};
+ghost use Rattle.label_masks.specs.LabelMasks.{ReadLabels, ReadMore, WrittenLabels};
 use lists::held;
-use table::marked;
+use readers::next_reader;
 
 // Of each task the labels that it writes, in masks that hold nothing at first.
 pub fn written_labels(labels: usize, writer: &[u32; 64], masks: &mut [u64; 32])
@@ -21,20 +21,17 @@ pub fn written_labels(labels: usize, writer: &[u32; 64], masks: &mut [u64; 32])
     }
 }
 
-// The labels that one task reads, of the first ones.
-fn labels_of(labels: usize, readers: &[u32; 64], r: u32) -> u64
-    requires { ⌜ (labels ≤ 64) × (r < 32) ⌝ }
-    ensures { λ mask. ⌜ Holds labels (now (readers .entry)) r mask ⌝ }
+// One label more in the masks of those of the first tasks that read it, from reader to reader.
+fn read_by(label: u32, tasks: u32, readers: u32, masks: &mut [u64; 32])
+    requires { ⌜ (label < 64) × (tasks ≤ 32) × (length (now masks) ≡ 32) ⌝ }
+    ensures { λ r. ⌜ ReadMore label tasks readers (now (masks .entry)) (now (masks .exit)) ⌝ }
 {
-    let mut mask: u64 = 0;
-    let mut l: usize = 0;
-    while l < labels {
-        if marked(readers[l], r as u64) {
-            mask = mask | 9223372036854775808 >> l;
-        }
-        l += 1;
+    let mut r = next_reader(readers, 0);
+    while r < tasks {
+        let i = r as usize;
+        masks[i] = masks[i] | 9223372036854775808 >> label;
+        r = next_reader(readers, r + 1);
     }
-    mask
 }
 
 // Of each task the labels that it reads, likewise.
@@ -43,10 +40,10 @@ pub fn read_labels(labels: usize, tasks: usize, readers: &[u32; 64], masks: &mut
     ensures { λ r. ⌜ ReadLabels labels tasks (now (readers .entry)) (now (masks .exit)) ⌝ }
 {
     let count = held(labels, 64);
-    let all = held(tasks, 32);
-    let mut r: usize = 0;
-    while r < all {
-        masks[r] = labels_of(count, readers, r as u32);
-        r += 1;
+    let all = held(tasks, 32) as u32;
+    let mut l: usize = 0;
+    while l < count {
+        read_by(l as u32, all, readers[l], masks);
+        l += 1;
     }
 }

@@ -9,7 +9,6 @@ use native.Mathlib.Decide.{decLt}
 use native.Mathlib.Numerals.{add-one}
 use native.Mathlib.Omega.{arith}
 use lib.Dec.{leb}
-use borrow.Author.Count.{below-more}
 use borrow.Author.Tests.{leb-true, le-leb, lt-leb}
 use Rattle.lists.specs.Lists.{eachBelow, onlyIf}
 use Rattle.lists.proofs.Bools.{and-parts}
@@ -52,24 +51,11 @@ module _ (readers from : ℕ) where
       by-cases (decLt j from) (λ early. rw (lt-leb from j early))
       (λ late. rw (le-leb from j (omega arith)) (none j (omega arith) less))
 
-  -- and only one task is so, or, where no task is left, 32
-  pub is-next : {r : ℕ} → r < 32 → from ≤ r → marks readers r ≡ true
-      → Unmarked readers from r → r ≡ nextReader readers from
-  unfolding nextReader
-  is-next {r} few late marked none =
-      first-only
-      (record { within = omega arith; before = passed-over none; passes = λ less. rw (le-leb from r late) marked })
-
+  -- where no task is left, it is 32
   pub no-next : Unmarked readers from 32 → 32 ≡ nextReader readers from
   unfolding nextReader
   no-next none =
       first-only (record { within = omega arith; before = passed-over none; passes = λ less. absurd (omega arith) })
-
-  -- one more task is not marked
-  pub one-more-unmarked : (r : ℕ) → Unmarked readers from r → marks readers r ≡ false → Unmarked readers from (r + 1)
-  one-more-unmarked r none fails j late less =
-      below-more (λ j. from ≤ j → marks readers j ≡ false) r (λ j less late. none j late less) (λ late. fails) j
-      less late
 
 -- after a task the next one is nearer to the end
 pub next-nearer : (readers : ℕ) {r s : ℕ} → r < 32 → s ≡ nextReader readers (r + 1) → 32 - s < 32 - r

@@ -2,21 +2,14 @@
 // what a readers field marks when it serves as a mask (proofs/).
 ghost use mathlib.Core.Path.{_≡_};
 ghost use Rattle.readers.specs.NextReader.{nextReader};
-use table::marked;
 
-// The first task at or after `from` that a readers field marks, or 32.
+// The first task at or after `from` that a readers field marks, or 32: by the count of leading zeros (document 02, C-12),
+// when the bits of the tasks before `from` are cut off.
 pub fn next_reader(readers: u32, from: u32) -> u32
     ensures { λ r. ⌜ r ≡ nextReader readers from ⌝ }
 {
-    if readers == 0 {
-        return 32;
-    }
-    let mut r = from;
-    while r < 32 {
-        if marked(readers, r as u64) {
-            return r;
-        }
-        r += 1;
+    if from < 32 {
+        return u32::leading_zeros(readers & (4294967295 >> from));
     }
     32
 }

@@ -3,10 +3,8 @@
 use Prim.Native.Nat.{_-_}
 use native.Mathlib.Omega.{arith}
 use borrow.Author.Needs.{needs}
-use Rattle.instants.proofs.ReadersPut.{none-read}
 use Rattle.readers.proofs.Walk.{next-nearer}
 use Rattle.texts.proofs.Putting.{puts-length}
-use Rattle.frame_texts.proofs.CopiesPut.{no-copy}
 use Rattle.frame_texts.proofs.ReadersPut.{Reached, reached-first, reached-next, reached-all}
 use Rattle.frame_texts.proofs.parts.reads_of.Statement.{statement}
 use Rattle.frame_texts.proofs.parts.reads_of.Tie as tie
@@ -20,9 +18,6 @@ abbrev μ-loop : tie.MeasureT-loop
 loop-holds : tie.Need-loop-holds Inv-loop μ-loop
 loop-holds c = reached-first _ _ _ _ (c .next-reader .ensures)
 
-returns : tie.Need-returns Inv-loop μ-loop
-returns c = no-copy _ _ (none-read _ _ _ (c .if1 .taken))
-
 loop-less : tie.Need-loop-less Inv-loop μ-loop
 loop-less c = next-nearer _ (c .before .before .before .before .before .loop-test .taken) (c .next-reader2 .ensures)
 
@@ -32,8 +27,8 @@ loop-again c =
     reached-next _ _ (put .before .before .before .loop .inv) (omega arith) (put .put-read .ensures)
     (c .next-reader2 .ensures)
 
-returns-2 : tie.Need-returns-2 Inv-loop μ-loop
-returns-2 c = reached-all _ _ _ (c .before .loop .inv) (omega arith)
+returns : tie.Need-returns Inv-loop μ-loop
+returns c = reached-all _ _ _ (c .before .loop .inv) (omega arith)
 
 pub reads-of-spec : {M : Type 1} → statement M
 reads-of-spec =
@@ -41,7 +36,6 @@ reads-of-spec =
     (tie.spec
     Inv-loop
     μ-loop
-    returns
     (λ c κs. search needs)  -- next-reader-requires
     loop-holds
     (λ c κs. search needs)  -- put-read-requires
@@ -50,4 +44,4 @@ reads-of-spec =
     loop-less
     loop-again
     (λ c. puts-length (c .before .loop .inv .put))  -- same-length
-    returns-2)
+    returns)

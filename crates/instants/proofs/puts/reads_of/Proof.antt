@@ -5,9 +5,8 @@ use mathlib.Core.Path.{_≡_, refl, _∙_}
 use native.Mathlib.Omega.{arith}
 use borrow.Author.Needs.{needs}
 use lib.ListN.{length}
-use Rattle.instants.proofs.Putting.{no-copy}
 use Rattle.readers.proofs.Walk.{next-nearer}
-use Rattle.instants.proofs.ReadersPut.{Reached, reached-first, reached-next, reached-all, none-read}
+use Rattle.instants.proofs.ReadersPut.{Reached, reached-first, reached-next, reached-all}
 use Rattle.instants.proofs.puts.reads_of.Statement.{statement}
 use Rattle.instants.proofs.puts.reads_of.Tie as tie
 
@@ -21,9 +20,6 @@ abbrev μ-loop : tie.MeasureT-loop
 loop-holds : tie.Need-loop-holds Inv-loop μ-loop
 loop-holds c = (refl, reached-first _ _ _ _ (c .next-reader .ensures))
 
-returns : tie.Need-returns Inv-loop μ-loop
-returns c = no-copy _ _ (none-read _ _ _ (c .if1 .taken))
-
 loop-less : tie.Need-loop-less Inv-loop μ-loop
 loop-less c = next-nearer _ (c .before .before .before .before .before .loop-test .taken) (c .next-reader2 .ensures)
 
@@ -35,8 +31,8 @@ loop-again c =
       reached-next _ _ (inv .1) (omega arith) (put .put-copy .ensures) (c .next-reader2 .ensures),
     )
 
-returns-2 : tie.Need-returns-2 Inv-loop μ-loop
-returns-2 c = reached-all _ _ _ (c .before .loop .inv .1) (omega arith)
+returns : tie.Need-returns Inv-loop μ-loop
+returns c = reached-all _ _ _ (c .before .loop .inv .1) (omega arith)
 
 pub reads-of-spec : {M : Type 1} → statement M
 reads-of-spec =
@@ -44,7 +40,6 @@ reads-of-spec =
     (tie.spec
     Inv-loop
     μ-loop
-    returns
     (λ c κs. search needs)  -- next-reader-requires
     loop-holds
     (λ c κs. omega arith)  -- put-copy-requires
@@ -53,4 +48,4 @@ reads-of-spec =
     loop-less
     loop-again
     (λ c. c .before .loop .inv .0)  -- same-length
-    returns-2)
+    returns)

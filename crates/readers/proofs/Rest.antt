@@ -12,18 +12,14 @@ use lib.Dec.{eqb, ltb, lit<}
 use lib.Pow.{mod-pow-add, pow-pos}
 use borrow.Author.Tests.{lt-ltb, eqb-true, eqb-false}
 use Rattle.table.specs.Table.{marks}
 use Rattle.readers.specs.NextReader.{nextReader}
 use Rattle.readers.proofs.Walk.{Unmarked, next-within, next-from, next-marked, none-between}
 
 -- the bits of the tasks from one on
 abbrev pub restFrom : (mask from : ℕ) → ℕ
 restFrom mask from = mask % 2 ^ (32 - from)
 
 module _ (mask : ℕ) where
-  -- all of it
-  pub rest-all : mask < 2 ^ 32 → restFrom mask 0 ≡ mask
-  rest-all few = mod-eq-of-lt few
-
   -- a task's own bit, and what is left after it
   by-one : (j : ℕ) → j < 32 → restFrom mask j ≡ mask / 2 ^ (31 - j) % 2 * 2 ^ (31 - j) + restFrom mask (j + 1)
   by-one j known =
@@ -73,10 +69,3 @@ module _ (mask : ℕ) where
     pub rest-next : nextReader mask from < 32 → restFrom mask from
         ≡ 2 ^ (31 - nextReader mask from) + restFrom mask (nextReader mask from + 1)
     rest-next below = to-next ∙ rest-marked _ below (next-marked mask from below)
-
-    -- nothing is left: no reader
-    pub rest-none : restFrom mask from ≡ 0 → nextReader mask from ≡ 32
-    rest-none none =
-        by-cases (decLt (nextReader mask from) 32)
-        (λ below. absurd (omega (arith, none, rest-next below, pow-pos (31 - nextReader mask from))))
-        (λ past. omega (arith, next-within mask from))
