@@ -1,10 +1,14 @@
 //! How long the proved code takes, in multiples of plain Rust built for release, as fast as it
 //! could be written: to read an image, to list the cores of a table, to find the ages of its
 //! chains. Both in one run, in turns, the least of many rounds. It prints ratios and is no test of
-//! speed; that both say the same is checked first.
+//! speed; that both say the same is checked first. Where it is built with an earlier archive too
+//! (build.rs), each table is also listed by that archive and by today's, in the same way.
 
-#![forbid(unsafe_code)]
+#![deny(unsafe_code)]
 
+#[cfg(before)]
+#[allow(unsafe_code)]
+mod before;
 mod proved;
 mod timing;
 
@@ -20,8 +24,14 @@ use plain::tables;
 use timing::{times, Times};
 
 fn print(what: &str, times: Times) {
-    let (Times { proved, plain }, ratio) = (times, times.ratio());
+    let (Times { proved, other: plain }, ratio) = (times, times.ratio());
     println!("{what}: proved {proved:.0} ns, plain Rust {plain:.0} ns, ratio {ratio:.3}");
+}
+
+#[cfg(before)]
+fn print_before(what: &str, times: Times) {
+    let (Times { proved: now, other: before }, ratio) = (times, times.ratio());
+    println!("{what}: before {before:.0} ns, now {now:.0} ns, ratio now/before {ratio:.3}");
 }
 
 /// The table is made and kept whole, although only the answer is used.
@@ -45,27 +55,32 @@ fn compare_reading(what: &str, image: &[u8]) {
     print(&format!("{what}, {} bytes, read", image.len()), times);
 }
 
-/// All cores of a table, each into a buffer that has room for the longest listing and no more.
+/// The proved code and another program list the cores of a table, each into a buffer of so many bytes.
+fn list(what: &str, image: &[u8], cores: u64, room: usize, other: proved::Listing) -> Times {
+    let [mut ours, mut theirs] = [vec![0xff; room], vec![0xff; room]];
+    for core in 0..=cores {
+        assert_eq!(proved::listing(image, core, &mut ours), other(image, core, &mut theirs));
+        assert!(ours == theirs, "{what}: the listings of core {core} differ");
+    }
+    let ask = |list: proved::Listing, buffer: &mut [u8]| {
+        for core in 0..cores {
+            _ = black_box(list(black_box(image), core, buffer));
+        }
+    };
+    times(|| ask(proved::listing, &mut ours), || ask(other, &mut theirs))
+}
+
+/// All cores of a table, with room for the longest listing and no more.
 fn compare_listing(what: &str, table: &Description) -> Times {
-    let image = table.image();
-    let cores = table.cores;
+    let (image, cores) = (table.image(), table.cores);
     let lengths = (0..cores).map(|core| independent::listing_length(&image, core));
     let lengths: Vec<u64> = lengths.collect::<Result<_, _>>().expect("the table is valid");
     let room = lengths.iter().max().map_or(0, |&longest| longest as usize);
-    let mut buffers = [vec![0xff; room], vec![0xff; room]];
-    for core in 0..=cores {
-        let [one, other] = &mut buffers;
-        assert_eq!(proved::listing(&image, core, one), listing(&image, core, other));
-        assert!(one == other, "{what}: the listings of core {core} differ");
-    }
-    let [one, other] = &mut buffers;
-    let ask = |list: proved::Listing, buffer: &mut [u8]| {
-        for core in 0..cores {
-            _ = black_box(list(black_box(&image), core, buffer));
-        }
-    };
-    let times = times(|| ask(proved::listing, one), || ask(listing, other));
-    print(&format!("{what}, {} bytes listed", lengths.iter().sum::<u64>()), times);
+    let what = format!("{what}, {} bytes listed", lengths.iter().sum::<u64>());
+    let times = list(&what, &image, cores, room, listing);
+    print(&what, times);
+    #[cfg(before)]
+    print_before(&what, list(&what, &image, cores, room, before::listing));
     times
 }
 
@@ -100,10 +115,12 @@ fn main() {
     compare_listing("a sparse round", &tables::sparse());
     compare_listing("a dense round", &tables::dense(10_000));
     compare_listing("fast tasks wanted rarely", &tables::ring());
+    compare_listing("64 labels with two readers each", &tables::two_readers());
+    compare_listing("64 labels with 31 readers each", &tables::all_others_read());
     let [short, long] = [10_000, 1_000_000].map(|round| {
         compare_listing(&format!("two frames in {round}"), &tables::two_frames(round))
     });
-    let (proved, plain) = (long.proved / short.proved, long.plain / short.plain);
+    let (proved, plain) = (long.proved / short.proved, long.other / short.other);
     println!("H a hundred times larger: proved {proved:.2} times, plain Rust {plain:.2} times");
 
     compare_ages(example, &tables::example(), ages);

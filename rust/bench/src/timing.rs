@@ -1,4 +1,5 @@
-//! Times of two programs that do the same, taken in turns in one run: the least of many.
+//! Times of the proved code and of another program that does the same, taken in turns in one run: the
+//! least of many.
 
 use std::time::{Duration, Instant};
 
@@ -6,12 +7,12 @@ use std::time::{Duration, Instant};
 #[derive(Clone, Copy)]
 pub struct Times {
     pub proved: f64,
-    pub plain: f64,
+    pub other: f64,
 }
 
 impl Times {
     pub fn ratio(&self) -> f64 {
-        self.proved / self.plain
+        self.proved / self.other
     }
 }
 
@@ -37,14 +38,14 @@ fn enough(program: &mut impl FnMut()) -> u32 {
     times
 }
 
-pub fn times(mut proved: impl FnMut(), mut plain: impl FnMut()) -> Times {
-    let times = enough(&mut plain);
-    let mut least = Times { proved: f64::MAX, plain: f64::MAX };
+pub fn times(mut proved: impl FnMut(), mut other: impl FnMut()) -> Times {
+    let times = enough(&mut other);
+    let mut least = Times { proved: f64::MAX, other: f64::MAX };
     let begun = Instant::now();
     let mut rounds = 0;
     while rounds < LEAST_ROUNDS || begun.elapsed() < LONGEST {
         least.proved = least.proved.min(nanoseconds(&mut proved, times));
-        least.plain = least.plain.min(nanoseconds(&mut plain, times));
+        least.other = least.other.min(nanoseconds(&mut other, times));
         rounds += 1;
     }
     least

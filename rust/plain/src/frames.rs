@@ -56,27 +56,14 @@ pub fn walk(
         while read != 0 {
             let label = read.trailing_zeros() as usize % 64;
             read &= read - 1;
-            let readers = table.readers[label] & served[table.writer[label] as usize % 32];
-            let mut task = next_reader(readers, 0);
-            while task < 32 {
+            let mut readers = table.readers[label] & served[table.writer[label] as usize % 32];
+            // The first bit is that of task 0.
+            while readers != 0 {
+                let task = readers.leading_zeros();
+                readers &= !(1 << (31 - task));
                 to.read(label as u32, task);
-                task = next_reader(readers, task + 1);
             }
         }
         now = publishing.min(reading);
     }
-}
-
-/// The first task at or after `from` that a readers field marks, or 32: by tests of one task after
-/// another, as the proved code finds it.
-#[inline(always)]
-fn next_reader(readers: u32, from: u32) -> u32 {
-    let mut task = from;
-    while task < 32 {
-        if readers & (1 << 31 >> task) != 0 {
-            return task;
-        }
-        task += 1;
-    }
-    32
 }

@@ -38,16 +38,31 @@ pub fn sparse() -> Description {
     on_eight_cores(&divisors.collect::<Vec<u64>>())
 }
 
-/// On one core 31 tasks of period 1 and one that is released once in a round, and 64 labels that all
-/// others read: 2,887 bytes for every tick.
-pub fn dense(round: u64) -> Description {
-    let others = |label| (0..32).filter(|&task| task != label % 32).collect();
+/// On one core 31 tasks of period 1 and one that is released once in a round, and 64 labels, each
+/// read by so many tasks after its writer.
+fn at_every_tick(round: u64, readers: u64) -> Description {
+    let read_by = |label| (1..=readers).map(|after| (label + after) % 32).collect();
     let mut periods = [1; 32];
     periods[31] = round;
     Description {
-        labels: (0..64).map(|label| (label % 32, others(label))).collect(),
+        labels: (0..64).map(|label| (label % 32, read_by(label))).collect(),
         ..Description::of_periods(&periods)
     }
+}
+
+/// All others read each label: 2,887 bytes for every tick.
+pub fn dense(round: u64) -> Description {
+    at_every_tick(round, 31)
+}
+
+/// Two readers of each label: few bits of each readers field.
+pub fn two_readers() -> Description {
+    at_every_tick(100, 2)
+}
+
+/// 31 readers of each label: almost all bits of each readers field.
+pub fn all_others_read() -> Description {
+    dense(100)
 }
 
 /// Fast tasks that are wanted rarely: a ring of labels.

@@ -130,12 +130,12 @@ fn long_rounds() {
 
 #[test]
 fn the_benchmarks_tables() {
-    let rounds = [10_000, 1_000_000].map(tables::two_frames);
     for table in [tables::example(), tables::control_unit(), tables::sparse(), tables::ring()] {
         check_listings(&table.image());
     }
-    check_listings(&tables::dense(100).image());
-    for table in rounds {
+    check_listings(&tables::two_readers().image());
+    check_listings(&tables::all_others_read().image());
+    for table in [10_000, 1_000_000].map(tables::two_frames) {
         check_listings(&table.image());
         let length = independent::listing_length(&table.image(), 0).unwrap();
         assert_eq!(length, (43u64 + 2 * 32 + 4 * 12).div_ceil(8));
