@@ -10,7 +10,7 @@ use lib.Bits.{bitAnd, and-mask}
 use lib.Count.{leadingZeros, leading-of-zero, leading-unique}
 use lib.Pow.{pow-pos, ones-lt, ones-split, high}
 use Rattle.readers.specs.NextReader.{nextReader}
-use Rattle.readers.proofs.Rest.{restFrom, rest-next, rest-some}
+use Rattle.readers.proofs.Rest.{restFrom, rest-none, rest-next}
 use Rattle.readers.proofs.Walk.{next-within}
 
 -- the bits of the tasks before one, cut off
@@ -41,10 +41,8 @@ module _ (mask from : ℕ) (few : from ≤ 32) where
   -- none is left
   without-next : 32 ≤ next → next ≡ leadingZeros 32 (restFrom mask from)
   without-next past =
-      let none : restFrom mask from ≡ 0 =
-      by-cases (decLt 0 (restFrom mask from))
-      (λ some. absurd (omega (arith, rest-some mask from few some))) (λ none. omega arith) in
-      rw (none, leading-of-zero) (omega (arith, next-within mask from))
+      let end : next ≡ 32 = omega (arith, next-within mask from) in
+      rw (rest-none mask from few end, leading-of-zero) end
 
   pub leading-next : leadingZeros 32 (bitAnd mask (4294967295 / 2 ^ from)) ≡ nextReader mask from
   leading-next =

@@ -2,14 +2,13 @@
 -- left after it. No contract cites this file. Assumes nothing.
 use Prim.Native.Nat.{ℕ, _+_, _*_, _-_, _/_, _%_, _^_, _<_, _≤_}
 use mathlib.Core.Path.{_≡_, refl, ap, _∙_}
-use mathlib.Core.Bool.{true, false, _&&_}
-use mathlib.Core.Logic.{by-cases}
-use native.Mathlib.Decide.{decLt, le-ind}
-use native.Mathlib.Nat.{mod-eq-of-lt, mod-lt, mod-one}
+use mathlib.Core.Bool.{true, false}
+use native.Mathlib.Decide.{le-ind}
+use native.Mathlib.Nat.{mod-lt, mod-one}
 use native.Mathlib.Numerals.{add-one}
 use native.Mathlib.Omega.{arith}
-use lib.Dec.{eqb, ltb, lit<}
-use lib.Pow.{mod-pow-add, pow-pos}
+use lib.Dec.{lit<}
+use lib.Pow.{mod-pow-add}
 use borrow.Author.Tests.{lt-ltb, eqb-true, eqb-false}
 use Rattle.table.specs.Table.{marks}
 use Rattle.readers.specs.NextReader.{nextReader}
@@ -57,15 +56,11 @@ module _ (mask : ℕ) where
     to-next : restFrom mask from ≡ restFrom mask (nextReader mask from)
     to-next = rest-on from _ (next-from mask from few) (next-within mask from) (none-between mask from)
 
-    -- something is left: a next reader, its bit and what is left after it
-    pub rest-some : 0 < restFrom mask from → nextReader mask from < 32
-    rest-some some =
-        by-cases (decLt (nextReader mask from) 32) (λ below. below)
-        (λ past.
-        let end : nextReader mask from ≡ 32 = omega (arith, next-within mask from) in
-        let none : restFrom mask from ≡ 0 = to-next ∙ rw end (mod-one mask) in
-        absurd (omega (arith, none, some)))
+    -- no reader is left: nothing
+    pub rest-none : nextReader mask from ≡ 32 → restFrom mask from ≡ 0
+    rest-none end = to-next ∙ rw end (mod-one mask)
 
+    -- a next reader: its bit and what is left after it
     pub rest-next : nextReader mask from < 32 → restFrom mask from
         ≡ 2 ^ (31 - nextReader mask from) + restFrom mask (nextReader mask from + 1)
     rest-next below = to-next ∙ rest-marked _ below (next-marked mask from below)
