@@ -1,51 +1,41 @@
--- Going from one reader of a writer to the next, and storing the counters of the pairs. Assumes nothing.
+-- The counters of one writer stored from reader to reader. Assumes nothing.
 use Prim.Native.Nat.{ℕ, _+_, _<_, _≤_}
-use mathlib.Core.Path.{_≡_}
-use mathlib.Core.Bool.{Bool, true}
-use mathlib.Core.List.{List}
-use native.Mathlib.Omega.{arith}
-use Rattle.table.specs.Table.{marks}
+use mathlib.Core.Path.{_≡_, ap, _∙_}
+use mathlib.Core.Bool.{Bool}
+use mathlib.Core.List.{List, [], _∷_, append-nil}
+use Rattle.lists.specs.Lists.{eachOf}
+use Rattle.lists.proofs.Each.{each-of-append}
 use Rattle.readers.specs.NextReader.{nextReader}
-use Rattle.readers.proofs.Walk.{next-within, next-from, next-marked}
-use Rattle.gathering.specs.Pairs.{pairCounted, pairsWith}
+use Rattle.readers.proofs.Walk.{Met, met-none, met-more, met-all}
+use Rattle.gathering.specs.Pairs.{pairCounted, tasksIn, pairsWith}
 use Rattle.gathering.specs.Stored.{Adds}
 use Rattle.gathering.proofs.InArray.{adds-none, adds-then}
-use Rattle.gathering.proofs.Walk.{pairsMet, none-met, on-met, more-met, all-met}
 
 module _ (counter : ℕ → ℕ) (reads : Bool) (core : ℕ) (cores : List ℕ) (w mask : ℕ) (count : ℕ) (array : List ℕ) where
-  -- the counters of the readers before r are stored, and r is a reader or 32
-  pub record Passed (more : ℕ) (then : List ℕ) (r : ℕ) : Type 0 where
-    pub within : r ≤ 32
-    pub marked : r < 32 → marks mask r ≡ true
-    pub room : more ≤ count + r
-    pub adds : Adds counter (pairsMet reads core cores w mask r) count array more then
+  -- the counters of the readers met are stored, and r is reached
+  abbrev AddsMet : (more : ℕ) (then : List ℕ) → List ℕ → Type 0
+  AddsMet more then met = Adds counter (eachOf met (pairCounted reads core cores w)) count array more then
 
-  -- the next reader is passed to from any task
-  passed-to : {more : ℕ} {then : List ℕ} (from : ℕ) → from ≤ 32 → more ≤ count + from
-      → Adds counter (pairsMet reads core cores w mask from) count array more then
-      → {r : ℕ} → r ≡ nextReader mask from → Passed more then r
-  passed-to from few room adds is = record {
-    within = rw is (next-within mask from);
-    marked = rw is (next-marked mask from);
-    room = omega (arith, is, next-from mask from few);
-    adds = rw (is, on-met reads core cores w mask from few) adds;
-  }
+  abbrev pub Passed : (more : ℕ) (then : List ℕ) (r : ℕ) → Type 0
+  Passed more then r = Met mask (λ r. r) (AddsMet more then) r
 
   -- first of all
   pub passed-none : {r : ℕ} → r ≡ nextReader mask 0 → Passed count array r
-  passed-none is =
-      passed-to 0 (omega arith) (omega arith) (rw (none-met reads core cores w mask) (adds-none counter count array)) is
+  unfolding eachOf
+  passed-none is = met-none mask (λ r. r) (AddsMet count array) (adds-none counter count array) is
 
-  module _ {more : ℕ} {then : List ℕ} {r : ℕ} (passed : Passed more then r) where
-    -- once the counter of one is stored, the one after it
-    pub passed-more : {most : ℕ} {last : List ℕ} {s : ℕ} → r < 32
-        → Adds counter (pairCounted reads core cores w r) more then most last → most ≤ more + 1
-        → s ≡ nextReader mask (r + 1) → Passed most last s
-    passed-more below one fits is =
-        passed-to (r + 1) (omega arith) (omega (arith, passed .room))
-        (rw (more-met reads core cores w mask r (passed .marked below)) (adds-then counter (passed .adds) one)) is
+  -- once the counter of one is stored, the one after it
+  pub passed-more : {more most : ℕ} {then last : List ℕ} {r s : ℕ} → Passed more then r → r < 32
+      → Adds counter (pairCounted reads core cores w r) more then most last
+      → s ≡ nextReader mask (r + 1) → Passed most last s
+  unfolding eachOf
+  passed-more {r = r} passed below one is =
+      met-more mask (λ r. r) (AddsMet _ _) (AddsMet _ _) passed below
+      (λ before adds.
+      rw (each-of-append (pairCounted reads core cores w) before (r ∷ []), append-nil (pairCounted reads core cores w r))
+      (adds-then counter adds one)) is
 
-    pub passed-all : 32 ≤ r → Adds counter (pairsWith reads core cores w mask) count array more then
-    passed-all past =
-        let end : r ≡ 32 = omega (arith, passed .within) in
-        rw (← all-met reads core cores w mask, ← end) (passed .adds)
+  pub passed-all : {more : ℕ} {then : List ℕ} {r : ℕ} → Passed more then r → 32 ≤ r
+      → Adds counter (pairsWith reads core cores w mask) count array more then
+  unfolding pairsWith tasksIn
+  passed-all passed past = met-all mask (λ r. r) (AddsMet _ _) passed past

@@ -1,18 +1,15 @@
--- The pairs of one writer, met by going from one reader to the next. Assumes nothing.
+-- The pairs that a core counts: one, and those of the first writers. Assumes nothing.
 use Prim.Native.Nat.{ℕ, _+_, _<_, _≤_}
 use mathlib.Core.Path.{_≡_, refl, sym, ap, _∙_}
-use mathlib.Core.Bool.{Bool, true, false}
-use mathlib.Core.List.{List, [], _∷_, _++_, append-nil}
+use mathlib.Core.Bool.{Bool, false}
+use mathlib.Core.List.{List, [], _∷_, _++_}
 use native.Mathlib.Numerals.{add-one}
 use native.Mathlib.Omega.{arith}
 use borrow.Author.Tests.{eq-eqb, ne-eqb}
 use lib.ListN.{getD}
 use Rattle.lists.specs.Lists.{eachBelow, eachOf, onlyIf}
 use Rattle.lists.proofs.Below.{each-below-less}
-use Rattle.lists.proofs.Each.{each-of-append}
 use Rattle.table.specs.Table.{marks}
-use Rattle.readers.specs.NextReader.{nextReader}
-use Rattle.readers.proofs.Walk.{met, walk-on, walk-meets}
 use Rattle.gathering.specs.Pairs.{codeOf, ownTask, pairCounted, tasksIn, pairsWith, pairsBelow, pairsOf}
 
 module _ (reads : Bool) (core : ℕ) (cores : List ℕ) (w : ℕ) where
@@ -26,31 +23,6 @@ module _ (reads : Bool) (core : ℕ) (cores : List ℕ) (w : ℕ) where
       → pairCounted reads core cores w r ≡ []
   unfolding pairCounted
   pair-off r own e off = rw (← e, ne-eqb _ _ off)
-
-  -- the pairs with the tasks of a mask below a bound
-  abbrev pub pairsMet : (mask from : ℕ) → List ℕ
-  pairsMet mask from = eachOf (met mask (λ r. r) from) (pairCounted reads core cores w)
-
-  pub none-met : (mask : ℕ) → pairsMet mask 0 ≡ []
-  unfolding eachBelow eachOf
-  none-met mask = refl
-
-  -- up to the next reader there is none to meet
-  pub on-met : (mask from : ℕ) → from ≤ 32 → pairsMet mask (nextReader mask from) ≡ pairsMet mask from
-  on-met mask from few = ap (λ tasks. eachOf tasks (pairCounted reads core cores w)) (walk-on mask (λ r. r) from few)
-
-  -- and a reader is met
-  pub more-met : (mask r : ℕ) → marks mask r ≡ true
-      → pairsMet mask (r + 1) ≡ pairsMet mask r ++ pairCounted reads core cores w r
-  unfolding eachOf
-  more-met mask r marked =
-      ap (λ tasks. eachOf tasks (pairCounted reads core cores w)) (walk-meets mask (λ r. r) r marked)
-      ∙ each-of-append (pairCounted reads core cores w) (met mask (λ r. r) r) (r ∷ [])
-      ∙ ap (λ l. pairsMet mask r ++ l) (append-nil (pairCounted reads core cores w r))
-
-  pub all-met : (mask : ℕ) → pairsMet mask 32 ≡ pairsWith reads core cores w mask
-  unfolding pairsWith tasksIn
-  all-met mask = refl
 
 -- a mask that marks nobody
 nobody : (mask : ℕ) → ((r : ℕ) → marks mask r ≡ false) → tasksIn mask ≡ []

@@ -1,4 +1,4 @@
 -- Laws of this crate.
 mod Below
+mod LabelAdded
 mod OneMore
-mod ReadMore

@@ -20,7 +20,7 @@ pub record ReadLabels (labels tasks : ℕ) (readers masks : List ℕ) : Type 0 w
       → holds 64 (getD masks r 0) l ≡ (ltb r tasks && (ltb l labels && marks (getD readers l 0) r))
 
 -- the masks after one label more: its readers among the first tasks hold it, too
-pub record ReadMore (label tasks readers : ℕ) (before after : List ℕ) : Type 0 where
+pub record LabelAdded (label tasks readers : ℕ) (before after : List ℕ) : Type 0 where
   pub long : length after ≡ length before
   pub has : (r l : ℕ) → r < 32 → holds 64 (getD after r 0) l
       ≡ (holds 64 (getD before r 0) l || (eqb l label && (ltb r tasks && marks readers r)))

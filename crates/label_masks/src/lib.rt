@@ -3,7 +3,7 @@
 ghost use mathlib.Core.Path.{_≡_};
 ghost use Prim.Native.Nat.{_<_, _≤_};
 ghost use lib.ListN.{length, replicate};
-ghost use Rattle.label_masks.specs.LabelMasks.{ReadLabels, ReadMore, WrittenLabels};
+ghost use Rattle.label_masks.specs.LabelMasks.{LabelAdded, ReadLabels, WrittenLabels};
 use lists::held;
 use readers::next_reader;
 
@@ -24,7 +24,7 @@ pub fn written_labels(labels: usize, writer: &[u32; 64], masks: &mut [u64; 32])
 // One label more in the masks of those of the first tasks that read it, from reader to reader.
 fn read_by(label: u32, tasks: u32, readers: u32, masks: &mut [u64; 32])
     requires { ⌜ (label < 64) × (tasks ≤ 32) × (length (now masks) ≡ 32) ⌝ }
-    ensures { λ r. ⌜ ReadMore label tasks readers (now (masks .entry)) (now (masks .exit)) ⌝ }
+    ensures { λ r. ⌜ LabelAdded label tasks readers (now (masks .entry)) (now (masks .exit)) ⌝ }
 {
     let mut r = next_reader(readers, 0);
     while r < tasks {

@@ -61,19 +61,50 @@ module _ (readers from : ℕ) where
 pub next-nearer : (readers : ℕ) {r s : ℕ} → r < 32 → s ≡ nextReader readers (r + 1) → 32 - s < 32 - r
 next-nearer readers {r} below is = let later = next-from readers (r + 1) (omega arith) in omega arith
 
--- a walk from one marked task to the next
+-- a walk has come to r, which is a marked task or 32, with what is said of the tasks before it
+pub record Reached (readers : ℕ) (Said : ℕ → Type 0) (r : ℕ) : Type 0 where
+  pub within : r ≤ 32
+  pub marked : r < 32 → marks readers r ≡ true
+  pub said : Said r
+
+pub reached-next : (readers : ℕ) (Said : ℕ → Type 0) (from : ℕ) {r : ℕ} → Said (nextReader readers from)
+    → r ≡ nextReader readers from → Reached readers Said r
+reached-next readers Said from said is =
+    record { within = rw is (next-within readers from); marked = rw is (next-marked readers from); said = rw is said }
+
+-- a walk by what the marked tasks have to add, one after the other
 module _ {A : Type 0} (readers : ℕ) (f : ℕ → A) where
   -- what the marked tasks below n have to add, by rising task
   abbrev pub met : ℕ → List A
   met n = eachBelow n (λ r. onlyIf (marks readers r) (f r))
 
   -- up to the next marked task there is none to meet
-  pub walk-on : (from : ℕ) → from ≤ 32 → met (nextReader readers from) ≡ met from
+  walk-on : (from : ℕ) → from ≤ 32 → met (nextReader readers from) ≡ met from
   walk-on from few =
       each-below-less from (nextReader readers from) _ (next-from readers from few)
       (λ j after less. rw (none-between readers from j after less))
 
   -- and a marked task is met
-  pub walk-meets : (r : ℕ) → marks readers r ≡ true → met (r + 1) ≡ met r ++ (f r ∷ [])
+  walk-meets : (r : ℕ) → marks readers r ≡ true → met (r + 1) ≡ met r ++ (f r ∷ [])
   unfolding eachBelow
   walk-meets r marked = rw (add-one, marked)
+
+  -- a walk has come to r, with what is said of those that it has met
+  abbrev pub Met : (List A → Type 0) → ℕ → Type 0
+  Met Said r = Reached readers (λ n. Said (met n)) r
+
+  -- first of all
+  pub met-none : (Said : List A → Type 0) → Said [] → {r : ℕ} → r ≡ nextReader readers 0 → Met Said r
+  unfolding eachBelow
+  met-none Said said is = reached-next readers _ 0 (rw (walk-on 0 (omega arith)) said) is
+
+  -- a marked task is met, and the one after it is reached
+  pub met-more : (Said Then : List A → Type 0) {r s : ℕ} → Met Said r → r < 32
+      → ((before : List A) → Said before → Then (before ++ f r ∷ [])) → s ≡ nextReader readers (r + 1) → Met Then s
+  met-more Said Then {r} reached below more is =
+      reached-next readers _ (r + 1)
+      (rw (walk-on (r + 1) (omega arith), walk-meets r (reached .marked below)) (more (met r) (reached .said))) is
+
+  -- all are met
+  pub met-all : (Said : List A → Type 0) {r : ℕ} → Met Said r → 32 ≤ r → Said (met 32)
+  met-all Said {r} reached past = let end : r ≡ 32 = omega (arith, reached .within) in rw (← end) (reached .said)

@@ -1,21 +1,21 @@
--- `label_masks::read_by` meets its contract. The loop's invariant: the readers before a task are passed, and the next one
--- is reached. Assumes nothing.
+-- `label_masks::read_by` meets its contract. The loop's invariant: the readers met hold the label, and the next one is
+-- reached. Assumes nothing.
 use Prim.Native.Nat.{_-_}
 use native.Mathlib.Omega.{arith}
 use borrow.Author.Needs.{needs}
 use Rattle.readers.proofs.Walk.{next-nearer}
-use Rattle.label_masks.proofs.ReadMore.{Passing, passing-none, passing-more, passing-all}
+use Rattle.label_masks.proofs.LabelAdded.{AddedTo, added-none, added-more, added-all}
 use Rattle.label_masks.proofs.read_by.Statement.{statement}
 use Rattle.label_masks.proofs.read_by.Tie as tie
 
 abbrev Inv-loop : tie.InvT-loop
-Inv-loop label tasks readers masks₀ r₀ masks r = Passing label readers masks₀ tasks masks r
+Inv-loop label tasks readers masks₀ r₀ masks r = AddedTo label readers masks₀ tasks masks r
 
 abbrev μ-loop : tie.MeasureT-loop
 μ-loop label tasks readers masks₀ r₀ masks r = 32 - r
 
 loop-holds : tie.Need-loop-holds Inv-loop μ-loop
-loop-holds c = passing-none _ _ _ (c .before .pre .1) (c .next-reader .ensures)
+loop-holds c = added-none _ _ _ _ (c .next-reader .ensures)
 
 loop-less : tie.Need-loop-less Inv-loop μ-loop
 loop-less c =
@@ -26,10 +26,10 @@ loop-again : tie.Need-loop-again Inv-loop μ-loop
 loop-again c =
     let turn = c .before .before .before in
     let (label, tasks, long) = turn .before .before .pre in
-    passing-more _ _ _ tasks (turn .loop .inv) long (omega arith) label (c .next-reader2 .ensures)
+    added-more _ _ _ (turn .loop .inv) tasks long (omega arith) label (c .next-reader2 .ensures)
 
 returns : tie.Need-returns Inv-loop μ-loop
-returns c = passing-all _ _ _ (c .before .before .before .pre .1) (c .before .loop .inv) (omega arith)
+returns c = added-all _ _ _ (c .before .loop .inv) (omega arith)
 
 pub read-by-spec : {M : Type 1} → statement M
 read-by-spec =

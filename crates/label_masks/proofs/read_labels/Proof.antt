@@ -5,7 +5,7 @@ use native.Mathlib.Omega.{arith}
 use borrow.Author.Needs.{needs}
 use lib.ListN.{length, length-replicate}
 use Rattle.label_masks.specs.LabelMasks.{ReadLabels}
-use Rattle.label_masks.proofs.ReadMore.{none-read, one-more-read, all-read}
+use Rattle.label_masks.proofs.LabelAdded.{none-read, one-more-read, all-read}
 use Rattle.label_masks.proofs.read_labels.Statement.{statement}
 use Rattle.label_masks.proofs.read_labels.Tie as tie
 

@@ -5,18 +5,18 @@ use native.Mathlib.Omega.{arith}
 use borrow.Author.Needs.{needs}
 use Rattle.readers.proofs.Walk.{next-nearer}
 use Rattle.texts.proofs.Putting.{puts-length}
-use Rattle.frame_texts.proofs.ReadersPut.{Reached, reached-first, reached-next, reached-all}
+use Rattle.frame_texts.proofs.ReadersPut.{ReadsPut, no-read-put, one-read-put, all-reads-put}
 use Rattle.frame_texts.proofs.parts.reads_of.Statement.{statement}
 use Rattle.frame_texts.proofs.parts.reads_of.Tie as tie
 
 abbrev Inv-loop : tie.InvT-loop
-Inv-loop bytes₀ at label readers serves served next₀ r₀ bytes next r = Reached served label bytes₀ bytes at next r
+Inv-loop bytes₀ at label readers serves served next₀ r₀ bytes next r = ReadsPut served label bytes₀ bytes at next r
 
 abbrev μ-loop : tie.MeasureT-loop
 μ-loop bytes₀ at label readers serves served next₀ r₀ bytes next r = 32 - r
 
 loop-holds : tie.Need-loop-holds Inv-loop μ-loop
-loop-holds c = reached-first _ _ _ _ (c .next-reader .ensures)
+loop-holds c = no-read-put _ _ _ _ (c .next-reader .ensures)
 
 loop-less : tie.Need-loop-less Inv-loop μ-loop
 loop-less c = next-nearer _ (c .before .before .before .before .before .loop-test .taken) (c .next-reader2 .ensures)
@@ -24,11 +24,11 @@ loop-less c = next-nearer _ (c .before .before .before .before .before .loop-tes
 loop-again : tie.Need-loop-again Inv-loop μ-loop
 loop-again c =
     let put = c .before .before .before in
-    reached-next _ _ (put .before .before .before .loop .inv) (omega arith) (put .put-read .ensures)
+    one-read-put _ _ (put .before .before .before .loop .inv) (omega arith) (put .put-read .ensures)
     (c .next-reader2 .ensures)
 
 returns : tie.Need-returns Inv-loop μ-loop
-returns c = reached-all _ _ _ (c .before .loop .inv) (omega arith)
+returns c = all-reads-put _ _ _ (c .before .loop .inv) (omega arith)
 
 pub reads-of-spec : {M : Type 1} → statement M
 reads-of-spec =
@@ -43,5 +43,5 @@ reads-of-spec =
     (λ c κs. search needs)  -- next-reader-requires-2
     loop-less
     loop-again
-    (λ c. puts-length (c .before .loop .inv .put))  -- same-length
+    (λ c. puts-length (c .before .loop .inv .said))  -- same-length
     returns)

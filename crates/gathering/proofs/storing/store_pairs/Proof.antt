@@ -1,6 +1,6 @@
 -- `gathering::storing::store_pairs` meets its contract. The loop's invariant: the counters of the readers met are stored,
 -- and the next one is reached. Assumes nothing.
-use Prim.Native.Nat.{_-_}
+use Prim.Native.Nat.{_+_, _-_, _≤_}
 use mathlib.Core.Path.{_≡_, refl, _∙_}
 use native.Mathlib.Omega.{arith}
 use borrow.Author.Needs.{needs}
@@ -13,14 +13,14 @@ use Rattle.gathering.proofs.storing.store_pairs.Tie as tie
 
 abbrev Inv-loop : tie.InvT-loop
 Inv-loop reads core cores w mask counters₀ count more₀ r₀ counters more r =
-    (length counters ≡ length counters₀)
+    (length counters ≡ length counters₀) × (more ≤ count + r)
     × Passed (counterOf 0) reads core cores w mask count counters₀ more counters r
 
 abbrev μ-loop : tie.MeasureT-loop
 μ-loop reads core cores w mask counters₀ count more₀ r₀ counters more r = 32 - r
 
 loop-holds : tie.Need-loop-holds Inv-loop μ-loop
-loop-holds c = (refl, passed-none _ _ _ _ _ _ _ _ (c .next-reader .ensures))
+loop-holds c = (refl, omega arith, passed-none _ _ _ _ _ _ _ _ (c .next-reader .ensures))
 
 loop-less : tie.Need-loop-less Inv-loop μ-loop
 loop-less c = next-nearer _ (c .before .before .before .before .before .loop-test .taken) (c .next-reader2 .ensures)
@@ -31,13 +31,14 @@ loop-again c =
     let turn = stored .before .before .before .loop in
     let (adds, few) = stored .store-pair .ensures in (
       c .before .before .counters .given ∙ turn .inv .0,
-      passed-more _ _ _ _ _ _ _ _ (turn .inv .1) (omega arith) adds few (c .next-reader2 .ensures),
+      omega (arith, turn .inv .1, few, next-nearer _ (stored .before .before .loop-test .taken) (c .next-reader2 .ensures)),
+      passed-more _ _ _ _ _ _ _ _ (turn .inv .2) (omega arith) adds (c .next-reader2 .ensures),
     )
 
 returns : tie.Need-returns Inv-loop μ-loop
 returns c =
-    let passed = c .before .loop .inv .1 in
-    (passed-all _ _ _ _ _ _ _ _ passed (omega arith), omega (arith, passed .room, passed .within))
+    let (long, room, passed) = c .before .loop .inv in
+    (passed-all _ _ _ _ _ _ _ _ passed (omega arith), omega (arith, room, passed .within))
 
 pub store-pairs-spec : {M : Type 1} → statement M
 store-pairs-spec =
@@ -48,7 +49,7 @@ store-pairs-spec =
     (λ c κs. search needs)  -- next-reader-requires
     loop-holds
     (λ c κs. let start = c .before .before .before .before .before in
-    (start .pre .0, omega arith, omega (arith, start .pre .1, c .before .before .loop .inv .1 .room)))  -- store-pair-requires
+    (start .pre .0, omega arith, omega (arith, start .pre .1, c .before .before .loop .inv .1)))  -- store-pair-requires
     (λ c. omega arith)  -- add-next-reader
     (λ c κs. search needs)  -- next-reader-requires-2
     loop-less

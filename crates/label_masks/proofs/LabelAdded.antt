@@ -14,15 +14,15 @@ use lib.Seq.{getD-set-same, getD-set-other}
 use Rattle.masks.specs.Masks.{holds}
 use Rattle.table.specs.Table.{marks}
 use Rattle.readers.specs.NextReader.{nextReader}
-use Rattle.readers.proofs.Walk.{Unmarked, next-from, next-marked, none-between}
-use Rattle.label_masks.specs.LabelMasks.{ReadLabels, ReadMore}
+use Rattle.readers.proofs.Walk.{Unmarked, next-from, none-between, Reached, reached-next}
+use Rattle.label_masks.specs.LabelMasks.{ReadLabels, LabelAdded}
 use Rattle.label_masks.proofs.Below.{below-same, none-below, same-labels, same-tasks}
 use Rattle.label_masks.proofs.OneMore.{with-label, no-masks}
 
 -- the readers of one label
 module _ (label readers : ℕ) (before : List ℕ) where
-  none-more : ReadMore label 0 readers before before
-  none-more = record {
+  no-reader : LabelAdded label 0 readers before before
+  no-reader = record {
     long = refl;
     has = λ r l known.
         sym (ap (λ b. holds 64 (getD before r 0) l || (eqb l label && b)) (sym (none-below r (marks readers r)))
@@ -30,8 +30,8 @@ module _ (label readers : ℕ) (before : List ℕ) where
   }
 
   -- on to a task, up to which none is marked
-  on-to : (from to : ℕ) → from ≤ to → Unmarked readers from to → {after : List ℕ} → ReadMore label from readers before after
-      → ReadMore label to readers before after
+  on-to : (from to : ℕ) → from ≤ to → Unmarked readers from to → {after : List ℕ} → LabelAdded label from readers before after
+      → LabelAdded label to readers before after
   on-to from to late none more = record {
     long = more .long;
     has = λ r l known.
@@ -46,8 +46,8 @@ module _ (label readers : ℕ) (before : List ℕ) where
 
   -- a reader more
   one-more : (r : ℕ) → r < 32 → label < 64 → marks readers r ≡ true → {after : List ℕ} → length after ≡ 32
-      → ReadMore label r readers before after
-      → ReadMore label (r + 1) readers before (set after r (bitOr (getD after r 0) (9223372036854775808 / 2 ^ label)))
+      → LabelAdded label r readers before after
+      → LabelAdded label (r + 1) readers before (set after r (bitOr (getD after r 0) (9223372036854775808 / 2 ^ label)))
   one-more r below few marked {after} long more = record {
     long = length-set after r _ ∙ more .long;
     has = λ s l known.
@@ -67,40 +67,39 @@ module _ (label readers : ℕ) (before : List ℕ) where
       both false true = refl
       both false false = refl
 
-  -- the readers before `from` are passed, and r is the next one
-  pub record Passing (tasks : ℕ) (after : List ℕ) (r : ℕ) : Type 0 where
-    pub from : ℕ
-    pub within : from ≤ tasks
-    pub next : r ≡ nextReader readers from
-    pub more : ReadMore label from readers before after
+  -- the readers before r that are among the first tasks hold it, and r is reached
+  abbrev pub AddedTo : (tasks : ℕ) (after : List ℕ) (r : ℕ) → Type 0
+  AddedTo tasks after r = Reached readers (λ n. LabelAdded label (min n tasks) readers before after) r
 
-  module _ {tasks : ℕ} (few : tasks ≤ 32) where
-    pub passing-none : {r : ℕ} → r ≡ nextReader readers 0 → Passing tasks before r
-    passing-none is = record { from = 0; within = omega arith; next = is; more = none-more }
+  module _ (tasks : ℕ) {after : List ℕ} where
+    -- the next reader is reached from any task
+    added-to : (from : ℕ) → from ≤ 32 → LabelAdded label (min from tasks) readers before after
+        → {r : ℕ} → r ≡ nextReader readers from → AddedTo tasks after r
+    added-to from few added is =
+        let next = next-from readers from few in
+        reached-next readers _ from
+        (on-to (min from tasks) (min (nextReader readers from) tasks) (omega arith)
+        (λ j late less. none-between readers from j (omega arith) (omega arith)) added) is
 
-    module _ {after : List ℕ} {r : ℕ} (passing : Passing tasks after r) where
-      late : passing .from ≤ r
-      late = rw (passing .next) (next-from readers (passing .from) (omega (arith, passing .within)))
+  -- first of all
+  pub added-none : (tasks : ℕ) {r : ℕ} → r ≡ nextReader readers 0 → AddedTo tasks before r
+  added-none tasks is =
+      let none : min 0 tasks ≡ 0 = omega arith in added-to tasks 0 (omega arith) (rw none no-reader) is
 
-      none : Unmarked readers (passing .from) r
-      none = rw (passing .next) (none-between readers (passing .from))
+  module _ {tasks r : ℕ} {after : List ℕ} (added : AddedTo tasks after r) where
+    -- once one holds it, the one after it
+    pub added-more : {s : ℕ} → tasks ≤ 32 → length before ≡ 32 → r < tasks → label < 64 → s ≡ nextReader readers (r + 1)
+        → AddedTo tasks (set after r (bitOr (getD after r 0) (9223372036854775808 / 2 ^ label))) s
+    added-more few long below known is =
+        let here : min r tasks ≡ r = omega arith in
+        let next : min (r + 1) tasks ≡ r + 1 = omega arith in
+        added-to tasks (r + 1) (omega arith)
+        (rw next (one-more r (omega arith) known (added .marked (omega arith)) (added .said .long ∙ long)
+        (rw here at (added .said)))) is
 
-      pub passing-more : {s : ℕ} → length before ≡ 32 → r < tasks → label < 64 → s ≡ nextReader readers (r + 1)
-          → Passing tasks (set after r (bitOr (getD after r 0) (9223372036854775808 / 2 ^ label))) s
-      passing-more long below known is =
-          let inside : r < 32 = omega arith in
-          let marked : marks readers r ≡ true =
-          rw (passing .next) (next-marked readers (passing .from) (rw (passing .next) at inside)) in
-          record {
-            from = r + 1;
-            within = omega arith;
-            next = is;
-            more = one-more r inside known marked (passing .more .long ∙ long) (on-to (passing .from) r late none (passing .more));
-          }
-
-      pub passing-all : tasks ≤ r → ReadMore label tasks readers before after
-      passing-all over =
-          on-to (passing .from) tasks (passing .within) (λ j after less. none j after (omega arith)) (passing .more)
+    -- all of them hold it
+    pub added-all : tasks ≤ r → LabelAdded label tasks readers before after
+    added-all over = let all : min r tasks ≡ tasks = omega arith in rw all at (added .said)
 
 -- the readers of all labels
 module _ (readers : List ℕ) where
@@ -112,7 +111,7 @@ module _ (readers : List ℕ) where
 
   -- one label more
   pub one-more-read : {l tasks : ℕ} {masks after : List ℕ} → ReadLabels l tasks readers masks
-      → ReadMore l tasks (getD readers l 0) masks after → ReadLabels (l + 1) tasks readers after
+      → LabelAdded l tasks (getD readers l 0) masks after → ReadLabels (l + 1) tasks readers after
   one-more-read {l} {tasks} {masks} {after} read more = record {
     has = λ r k known few.
         more .has r k known
