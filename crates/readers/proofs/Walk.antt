@@ -67,6 +67,7 @@ pub record Reached (readers : ℕ) (Said : ℕ → Type 0) (r : ℕ) : Type 0 wh
   pub marked : r < 32 → marks readers r ≡ true
   pub said : Said r
 
+-- from any task the next one is reached
 pub reached-next : (readers : ℕ) (Said : ℕ → Type 0) (from : ℕ) {r : ℕ} → Said (nextReader readers from)
     → r ≡ nextReader readers from → Reached readers Said r
 reached-next readers Said from said is =
