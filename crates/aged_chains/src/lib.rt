@@ -1,4 +1,6 @@
 // The ages of a chain, by the periods of its tasks: first 12 (document 01, Numbers that say no).
+#![tactic(auto)]
+
 ghost use Rattle.std.specs.Prelude.{◌≡◌};
 ghost use Rattle.aged_chains.specs.Aged.{said_of_ages};
 ghost use Rattle.aged_chains.specs.Parts.{aged_by, RightAsked};

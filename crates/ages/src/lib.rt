@@ -1,1 +1,3 @@
 // The age of a chain: definitions (specs/); the code follows.
+#![tactic(auto)]
+

@@ -1,4 +1,6 @@
 // All fields of an image: head, tasks, labels, chains and the fill (document 01, Table image).
+#![tactic(auto)]
+
 ghost use Rattle.std.specs.Prelude.{◌≡◌, [], replicate};
 ghost use Rattle.table.specs.Image.{rows_of};
 ghost use Rattle.all_fields.specs.FieldsRead.{held_in, FieldsRead};

@@ -1,5 +1,7 @@
 // A case's question, put to the proved libraries, and the answer told, for the program that runs the cases; a listing:
 // crates/listing_answers.
+#![tactic(auto)]
+
 use first_line::HyperperiodAnswer;
 use questions::{AgesAnswer, PointsAnswer};
 use telling::{tell, tell_hyperperiod, tell_refusal};

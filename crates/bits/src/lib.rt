@@ -1,4 +1,6 @@
 // Fields of a string of bytes (document 01, Table image): `width` bits from bit `at`, most significant bit first.
+#![tactic(auto)]
+
 ghost use Rattle.std.specs.Prelude.{◌≡◌, ◌+◌, ◌-◌, ◌*◌, ◌≤◌, ◌<◌, ◌^◌, min, length};
 ghost use Rattle.bits.specs.Bits.{field_at};
 ghost use Rattle.bits.specs.Found.{found_at, said_of_found};

@@ -1,4 +1,6 @@
 // Head, tasks and labels: the table but for its chains (document 01, Table image).
+#![tactic(auto)]
+
 ghost use Rattle.std.specs.Prelude.{◌≡◌, [], ◌∷◌};
 ghost use Rattle.body.specs.Parts.{BodyRead};
 

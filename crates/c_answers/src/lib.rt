@@ -1,6 +1,8 @@
 // What the C interface says: of each question its answer, or its refusal, as a struct of numbers. The number is 0 where the
 // question is answered, and else that of document 01, Numbers that say no; a refusal "carries no other value", so the rest
 // of it is 0. What each says: specs/Said.antt.
+#![tactic(auto)]
+
 pub mod of_chain;
 pub mod of_core;
 pub mod of_image;

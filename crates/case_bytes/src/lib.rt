@@ -1,4 +1,6 @@
 // The image of a case: bytes in hexadecimal, each after one space. What it reads: specs/.
+#![tactic(auto)]
+
 ghost use Rattle.std.specs.Prelude.{◌≡◌, ◌+◌, ◌*◌, ◌≤◌, length, take};
 ghost use Rattle.lists.specs.Lists.{over};
 ghost use Rattle.case_bytes.specs.Images.{byte_at, bytes_from};

@@ -1,4 +1,6 @@
 // A line of a case, read: what it asks, and of which image. What a line says: crates/run_cases, src/main.rt.
+#![tactic(auto)]
+
 ghost use Rattle.std.specs.Prelude.{◌≤◌, length};
 
 use case_bytes::bytes_at;

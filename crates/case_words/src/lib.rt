@@ -1,4 +1,6 @@
 // The word that the question of a case goes by, after one space. What each stands for: specs/.
+#![tactic(auto)]
+
 ghost use Rattle.case_words.specs.Words.{Goes, asked_by};
 ghost use Rattle.std.specs.Prelude.{◌≡◌};
 

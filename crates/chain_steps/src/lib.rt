@@ -1,5 +1,7 @@
 // "Each step of a chain needs a label that the earlier task writes and the next one reads": the search over chain steps
 // and labels (document 01, Table image).
+#![tactic(auto)]
+
 ghost use Rattle.std.specs.Prelude.{◌≡◌, ◌+◌, ◌≤◌, ltb};
 ghost use Rattle.taking.specs.Reading.{field};
 ghost use Rattle.chain_steps.specs.Linked.{Falling, InEachSearched};

@@ -1,4 +1,6 @@
 // "Each chain: length 4, then that many task numbers of 5" (document 01, Table image).
+#![tactic(auto)]
+
 ghost use Rattle.std.specs.Prelude.{◌≡◌, ◌≤◌, min};
 ghost use Rattle.chain_steps.specs.Linked.{Falling, InEachSearched, InEachLabelled};
 ghost use Rattle.chains.specs.Parts.{ChainTaken, ChainsTaken};

@@ -1,1 +1,3 @@
 // Copies, frames and the listing of a core: definitions (specs/); the code follows.
+#![tactic(auto)]
+

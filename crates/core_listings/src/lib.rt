@@ -1,5 +1,7 @@
 // The listing of a core of a table, written where there is room for it (document 01, Numbers that say no: 11, "lent buffer
 // shorter than the listing"), which is known before a byte is written.
+#![tactic(auto)]
+
 ghost use Rattle.std.specs.Prelude.{◌≡◌, ◌<◌};
 ghost use Rattle.table.specs.declared.Table.{Table};
 ghost use Rattle.counted_listings.specs.Listed.{Fills, Lists};

@@ -1,5 +1,7 @@
 // The text of a core, made in lent bytes (document 01, The printing program): its own line and the lines of its frames,
 // gone through from point to point.
+#![tactic(auto)]
+
 ghost use Rattle.copies.specs.Listing.{core_listing};
 ghost use Rattle.frames.specs.Counts.{RightRound};
 ghost use Rattle.printing.specs.Printed.{core_text};

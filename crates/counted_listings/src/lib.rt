@@ -1,5 +1,7 @@
 // The listing of a core by its counters: measured, and written where there is room for it (document 01, Numbers that say no:
 // 11, "lent buffer shorter than the listing"), which is known before a byte is written.
+#![tactic(auto)]
+
 ghost use Rattle.std.specs.Prelude.{◌≤◌, length};
 ghost use Rattle.table.specs.declared.Table.{Table};
 ghost use Rattle.frames.specs.Ready.{Ready};

@@ -1,6 +1,8 @@
 // The counters of a core go on from instant to instant, and say what is due (document 003: "Such counters can be used
 // to identify the time instants in which the LET communications for a pair of tasks must be performed"). What is due:
 // specs/.
+#![tactic(auto)]
+
 ghost use Rattle.std.specs.Prelude.{◌≡◌, map, true, false, ◌≤◌, ◌<◌, ◌^◌, length};
 ghost use Rattle.std.specs.Int.Count.{ones};
 ghost use Rattle.counters.specs.Advanced.{stepped, masks_due, labels_due, count_due, next_due};

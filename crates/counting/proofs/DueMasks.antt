@@ -1,7 +1,7 @@
 -- The masks that the counters of a core give at a tick are those of the instant. Assumes nothing.
 use Prim.Native.Nat.{ℕ, ◌<◌, ◌≤◌}
 use mathlib.Core.Path.{◌≡◌, sym, ap, ap₂, ◌∙◌}
-use mathlib.Core.Bool.{Bool, true, false, ◌&&◌, and_comm, and_false}
+use mathlib.Core.Bool.{Bool, true, false, ◌&&◌, and_comm, and-false}
 use mathlib.Core.List.{List}
 use mathlib.Core.Logic.{by_cases}
 use native.Mathlib.Decide.{ℕ_discrete}
@@ -36,11 +36,11 @@ same_code point other v s w r of_v of_s of_w of_r same =
     let writer : v ≡ w = omega arith in
     let reader : s ≡ r = omega arith in
     rw (same writer reader, eq-eqb _ _ alike, eq-eqb v w writer, eq-eqb r s (sym reader)))
-    (λ unlike. rw (ne_eqb _ _ unlike, and_false other) (by_cases (ℕ_discrete v w)
+    (λ unlike. rw (ne_eqb _ _ unlike, and-false other) (by_cases (ℕ_discrete v w)
     (λ writer.
     let reader : ¬ (r ≡ s) = λ e. unlike (omega arith) in
-    rw (ne_eqb r s reader, and_false (eqb v w)) (and_false point))
-    (λ other_writer. rw (ne_eqb v w other_writer) (and_false point))))
+    rw (ne_eqb r s reader, and-false (eqb v w)) (and-false point))
+    (λ other_writer. rw (ne_eqb v w other_writer) (and-false point))))
 
 module _ (whole : Whole) (rules : MeetsRules whole) (sound : Sound whole.table) (core t : ℕ)
     (soon : t ≤ hyperperiod_of whole.table)

@@ -1,7 +1,7 @@
 -- The labels of the counters that are due at a tick are those that are due by their masks. Assumes nothing.
 use Prim.Native.Nat.{ℕ, ◌<◌}
 use mathlib.Core.Path.{◌≡◌, refl, sym, ap, ap₂, ◌∙◌}
-use mathlib.Core.Bool.{Bool, true, false, cond, ◌&&◌, ◌||◌, or-false, or_assoc, and_assoc, and_false}
+use mathlib.Core.Bool.{Bool, true, false, cond, ◌&&◌, ◌||◌, or-false, or_assoc, and_assoc, and-false}
 use mathlib.Core.List.{List, [], ◌∷◌}
 use native.Mathlib.Nat.{mod-lt}
 use borrow.Author.Tests.{lt-ltb, ltb-true, eq-eqb, eqb-true}
@@ -81,7 +81,7 @@ module _ (labels tasks : ℕ) (writer readers written read : List ℕ) (of_write
         arranged true inside false marked is = refl
         arranged true inside true true is =
             rw (lt-ltb (reader_in counter) tasks (known l (reader_in counter) (ltb-true l labels inside) is))
-        arranged true inside true false is = and_false (ltb (reader_in counter) tasks)
+        arranged true inside true false is = and-false (ltb (reader_in counter) tasks)
 
     module _ (t : ℕ) (counters : List ℕ) where
       -- a counter is due for a label

@@ -1,7 +1,7 @@
 -- The tests of a pair of tasks, by its counter and by its masks. Assumes nothing.
 use Prim.Native.Nat.{ℕ, ◌<◌}
 use mathlib.Core.Path.{◌≡◌, refl, ◌∙◌}
-use mathlib.Core.Bool.{Bool, true, false, ◌&&◌, and_true, and_false}
+use mathlib.Core.Bool.{Bool, true, false, ◌&&◌, and-true, and-false}
 use lib.ListN.{length, get_or}
 use Rattle.lists.specs.Lists.{only_if}
 use Rattle.table.specs.Table.{marks, reads}
@@ -21,8 +21,8 @@ as_many x y one false is = rw is
 -- the order of the tests of a pair
 pub arranged : (joins core tick point marked : Bool) → (joins ≡ true → tick ≡ point)
     → (((joins && core) && tick) && marked) ≡ (marked && ((core && joins) && point))
-arranged true true tick point true same = and_true tick ∙ same refl
-arranged true true tick point false same = and_false tick
+arranged true true tick point true same = and-true tick ∙ same refl
+arranged true true tick point false same = and-false tick
 arranged true false tick point true same = refl
 arranged true false tick point false same = refl
 arranged false true tick point true same = refl

@@ -2,7 +2,7 @@
 -- nothing.
 use Prim.Native.Nat.{ℕ, ◌^◌, ◌<◌, ◌≤◌, min}
 use mathlib.Core.Path.{◌≡◌, refl, sym, ap, ap₂, ◌∙◌}
-use mathlib.Core.Bool.{Bool, true, false, cond, ◌&&◌, and_false}
+use mathlib.Core.Bool.{Bool, true, false, cond, ◌&&◌, and-false}
 use mathlib.Core.List.{List, []}
 use native.Mathlib.Nat.{mod-lt, zero-add}
 use mathlib.Core.Logic.{by_cases}
@@ -79,7 +79,7 @@ module _ (whole : Whole) (rules : MeetsRules whole) (sound : Sound whole.table) 
     no_label l w below writes none =
         each_below_less 0 32 (λ r. only_if (test l w r) l) (omega arith) (λ r late reads.
         ap (λ b. only_if (listed w r && b) l) (pair_labels l w r below writes reads ∙ none r)
-        ∙ ap (λ b. only_if b l) (and_false (listed w r)))
+        ∙ ap (λ b. only_if b l) (and-false (listed w r)))
 
     -- the test of a pair of a label's writer is that of a read
     own_writer : (l r : ℕ) → l < 64 → l < table.labels → r < 32
@@ -111,7 +111,7 @@ module _ (whole : Whole) (rules : MeetsRules whole) (sound : Sound whole.table) 
         let writes : wl l < 32 = mod-lt _ (lit< tt) in
         ap length (below_only 32 (wl l) _ writes (λ w known other.
         no_label l w below known (λ r.
-        rw (ne_eqb (wl l) w (λ same. other (sym same))) (and_false (ltb l table.labels)))))
+        rw (ne_eqb (wl l) w (λ same. other (sym same))) (and-false (ltb l table.labels)))))
         ∙ by_cases (dec_lt l table.labels)
         (λ known.
         rw (lt-ltb l table.labels known)

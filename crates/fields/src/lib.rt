@@ -1,4 +1,6 @@
 // A field taken and checked: "each is read whole and then checked" (document 01, Numbers that say no).
+#![tactic(auto)]
+
 ghost use Rattle.std.specs.Prelude.{◌≡◌, ◌+◌, min};
 ghost use Rattle.outcomes.specs.Outcome.{asked_of};
 ghost use Rattle.taking.specs.Reading.{field};

@@ -1,5 +1,7 @@
 // The hyperperiod H of an image, which the first line of the text tells (document 01, The printing program). What the
 // answer says: specs/.
+#![tactic(auto)]
+
 ghost use Rattle.std.specs.Prelude.{◌≡◌};
 ghost use Rattle.first_line.specs.FirstLine.{said_of_hyperperiod, hyperperiod};
 ghost use Rattle.times.specs.Rounds.{within_limit};

@@ -1,6 +1,8 @@
 // A chain followed forwards and backwards, by the periods of its tasks (document 01, Age of a chain), from four instants
 // at once. What is followed is the instant at which a task publishes; of the last task that is one period after the end
 // of the path. Beside each period stand a factor and a shift, which divide by it (crates/quotients).
+#![tactic(auto)]
+
 ghost use Rattle.std.specs.Prelude.{◌≡◌, ◌≤◌, ◌+◌, ◌*◌, ◌-◌};
 ghost use Rattle.quotients.specs.Inverses.{InversesOf};
 ghost use Rattle.following.specs.Following.{tasks_from, passed, last_start, end_from};

@@ -1,6 +1,8 @@
 // The line of a frame, made in lent bytes (document 01, The printing program: "A frame's line is its start and then each
 // copy after one space"), from masks of the labels that are written and read at an instant (crates/instants,
 // specs/Due.antt).
+#![tactic(auto)]
+
 ghost use Rattle.std.specs.Prelude.{◌++◌};
 ghost use Rattle.instants.specs.Due.{writes_in, reads_in};
 ghost use Rattle.printing.specs.Printed.{frame_text};

@@ -1,5 +1,7 @@
 // The frames of a core over a round, gone through from point to point (document 01, Copies and frames): counted first,
 // so that a listing's length is known before a byte is written, and written second.
+#![tactic(auto)]
+
 ghost use Rattle.frames.specs.Ready.{StoredBoth};
 
 pub mod counts;

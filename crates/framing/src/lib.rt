@@ -1,5 +1,7 @@
 // The listing of a core, written into lent bytes (document 01, Copies and frames: "A listing: core 3, H 20, frame count
 // 20; then each frame by rising time: start 20, copy count 12, and each copy").
+#![tactic(auto)]
+
 ghost use Rattle.std.specs.Prelude.{ℕ, ◌≤◌, ◌≡◌, length};
 ghost use Rattle.table.specs.declared.Table.{Table};
 ghost use Rattle.frames.specs.Counts.{RightRound};

@@ -1,6 +1,8 @@
 // The counters of a core, gathered from a table (document 003: "two counters for each pair of communicating tasks: one
 // for write operations, and one for read operations"). Publishing points and reading points are counted alike, `reads`
 // saying which. What a counter is: specs/.
+#![tactic(auto)]
+
 ghost use Rattle.std.specs.Prelude.{◌≡◌, min, replicate};
 ghost use Rattle.gathering.specs.Pairs.{joined_masks, pairs_below};
 ghost use Rattle.gathering.specs.Counters.{counter_of};

@@ -1,4 +1,6 @@
 // The arrays of an image's tasks and labels, read where they are to be used: so no compiled code copies them.
+#![tactic(auto)]
+
 ghost use Rattle.std.specs.Prelude.{◌≡◌, replicate};
 ghost use Rattle.image_arrays.specs.ArraysShown.{ArraysShown};
 

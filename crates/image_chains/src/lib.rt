@@ -1,4 +1,6 @@
 // One chain of an image, read by the periods of its tasks, so that nothing of the table is copied.
+#![tactic(auto)]
+
 ghost use Rattle.image_chains.specs.PeriodsShown.{PeriodsShown};
 
 mod periods;

@@ -45,18 +45,18 @@ pub none_past : (x t : ℕ) → t ≤ 32 → x < 2 ^ 32 → x * 2 ^ t % 2 ^ 64 %
 none_past x t few small none =
     eq_of_mul-eq-mul_right (2 ^ t) (pow_pos t) _ 0 (sym (shifted_past x t few small) ∙ none ∙ sym (zero-mul _))
 
-and_false : (a : Bool) → (a && false) ≡ false
-and_false true = refl
-and_false false = refl
+and-false : (a : Bool) → (a && false) ≡ false
+and-false true = refl
+and-false false = refl
 
-and_true : (a : Bool) → (a && true) ≡ false → a ≡ false
-and_true true e = e
-and_true false e = refl
+and-true : (a : Bool) → (a && true) ≡ false → a ≡ false
+and-true true e = e
+and-true false e = refl
 
 -- a task is marked by a 1 in its bit
 unmarked_by_zero : (readers i : ℕ) → readers / 2 ^ (31 - i) % 2 ≡ 0 → marks readers i ≡ false
 unfolding marks
-unmarked_by_zero readers i none = rw none (and_false (ltb i 32))
+unmarked_by_zero readers i none = rw none (and-false (ltb i 32))
 
 zero_where_unmarked : (readers i : ℕ) → i < 32 → marks readers i ≡ false → readers / 2 ^ (31 - i) % 2 ≡ 0
 unfolding marks
@@ -72,7 +72,7 @@ module _ (tasks writer readers : ℕ) (few : tasks ≤ 32) (own : writer < tasks
 
   unmarked_past : some_below 32 wrong ≡ false → (i : ℕ) → tasks ≤ i → i < 32 → marks readers i ≡ false
   unmarked_past none i past small =
-      and_true (marks readers i) (rw (le-ltb i tasks past) at (some_below_none_passes 32 wrong none i small))
+      and-true (marks readers i) (rw (le-ltb i tasks past) at (some_below_none_passes 32 wrong none i small))
 
   past_zero : some_below 32 wrong ≡ false → readers % 2 ^ (32 - tasks) ≡ 0
   past_zero none =
@@ -89,7 +89,7 @@ module _ (tasks writer readers : ℕ) (few : tasks ≤ 32) (own : writer < tasks
       ⊎_elim
       (λ (inside : ltb i tasks ≡ true). ⊎_elim
       (λ same. rw (unmarked_by_zero readers i (rw (eqb-true i writer same) self)))
-      (λ (other : eqb i writer ≡ false). rw (inside, other) (and_false (marks readers i)))
+      (λ (other : eqb i writer ≡ false). rw (inside, other) (and-false (marks readers i)))
       (true_or_false (eqb i writer)))
       (λ outside.
       let late = ltb-false i tasks outside in

@@ -1,6 +1,8 @@
 // One part of an image: its head, one task or one label (document 01, Table image: "Part"). Each answers and, beside the
 // answer, gives what was read; of a refused part what stands beside the answer says nothing. What each stands for:
 // specs/Parts.antt.
+#![tactic(auto)]
+
 use table::Answer;
 
 pub mod heads;

@@ -1,5 +1,7 @@
 // The reader of an image: any string of bytes in, a table or one numbered refusal out (document 01: Table image, Numbers
 // that say no).
+#![tactic(auto)]
+
 ghost use Rattle.std.specs.Prelude.{◌≡◌};
 ghost use Rattle.table.specs.Shown.{shown_of};
 ghost use Rattle.images.specs.TableShown.{TableShown};

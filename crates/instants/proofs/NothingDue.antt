@@ -1,7 +1,7 @@
 -- Of masks that mark nothing no copy is due. Assumes nothing.
 use Prim.Native.Nat.{ℕ, ◌<◌, min}
 use mathlib.Core.Path.{◌≡◌, ap₂}
-use mathlib.Core.Bool.{false, and_false}
+use mathlib.Core.Bool.{false, and-false}
 use mathlib.Core.List.{List, [], ◌++◌}
 use native.Mathlib.Nat.{mod-lt}
 use native.Mathlib.Omega.{arith}
@@ -27,7 +27,7 @@ none_each n adds none = each_below_less 0 n adds (omega arith) (λ k late below.
 module _ (writer readers : List ℕ) where
   in_neither : (l r : ℕ) → in_both (get_or readers l 0) (get_or (replicate 32 0) (writer_due writer l) 0) r ≡ false
   unfolding writer_due
-  in_neither l r = rw (unmarked (writer_due writer l) r (mod-lt _ (lit< tt))) (and_false (marks (get_or readers l 0) r))
+  in_neither l r = rw (unmarked (writer_due writer l) r (mod-lt _ (lit< tt))) (and-false (marks (get_or readers l 0) r))
 
   pub nothing_due : (labels : ℕ) → copies_due labels writer readers (replicate 32 0) (replicate 32 0) ≡ []
   unfolding copies_due writes_due all_reads_due write_due reads_due

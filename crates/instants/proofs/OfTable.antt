@@ -2,7 +2,7 @@
 -- order. Assumes nothing.
 use Prim.Native.Nat.{ℕ, ◌<◌, ◌≤◌, min}
 use mathlib.Core.Path.{◌≡◌, refl, ap, ap₂, ◌∙◌}
-use mathlib.Core.Bool.{Bool, true, false, ◌&&◌, and_false}
+use mathlib.Core.Bool.{Bool, true, false, ◌&&◌, and-false}
 use mathlib.Core.List.{List, ◌++◌}
 use native.Mathlib.Nat.{mod-eq_of_lt}
 use native.Mathlib.Omega.{arith}
@@ -78,7 +78,7 @@ module _ (whole : Whole) (rules : MeetsRules whole) where
         (ap (λ b. reads table l r && b) (due.serving w r (writer_known l known) below)
         ∙ arranged (reads table l r) (eqb (core_of table r) core) (joins table w r) (point r) (also_joined l r known)))
         ∙ each_below_less table.tasks 32 _ rules.tasks.1
-        (λ r past below. rw (unread_past l r known past, and_false (eqb (core_of table r) core)))
+        (λ r past below. rw (unread_past l r known past, and-false (eqb (core_of table r) core)))
 
     -- the writes, the reads, and all of them
     pub writes_are : writes_due table.writer table.readers publishes table.labels ≡ writes_at table core t

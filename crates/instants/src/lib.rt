@@ -1,5 +1,7 @@
 // The copies of one instant (document 01, Copies and frames), from masks of the labels that are written and of those that
 // are read, and of the readers that are served from each writer. What they are: specs/.
+#![tactic(auto)]
+
 ghost use Rattle.std.specs.Prelude.{◌≡◌, ◌++◌};
 ghost use Rattle.instants.specs.Due.{writes_in, reads_in};
 ghost use Rattle.instants.specs.Puts.{PutsCopies};

@@ -2,7 +2,7 @@
 use Prim.Native.Nat.{ℕ, ◌+◌, ◌<◌, min}
 use mathlib.Core.Path.{◌≡◌, ◌∙◌}
 use mathlib.Core.Logic.{by_cases}
-use mathlib.Core.Bool.{Bool, true, false, ◌&&◌, ◌||◌, or-false, or-true, and_false}
+use mathlib.Core.Bool.{Bool, true, false, ◌&&◌, ◌||◌, or-false, or-true, and-false}
 use native.Mathlib.Decide.{ℕ_discrete, dec_lt}
 use native.Mathlib.Omega.{arith}
 use borrow.Author.Tests.{eq-eqb, ne_eqb, lt-ltb, le-ltb}
@@ -24,7 +24,7 @@ below_with n k test there =
 pub below_without : (n k : ℕ) (test : Bool) → (k ≡ n → test ≡ false) → (ltb k n && test) ≡ (ltb k (n + 1) && test)
 below_without n k test there =
     by_cases (ℕ_discrete k n)
-    (λ same. rw (there same, and_false (ltb k n), and_false (ltb k (n + 1))))
+    (λ same. rw (there same, and-false (ltb k n), and-false (ltb k (n + 1))))
     (below_same n k test)
 
 -- there is none below 0

@@ -2,7 +2,7 @@
 use Prim.Native.Nat.{ℕ, ◌+◌, ◌/◌, ◌^◌, ◌<◌, ◌≤◌, min}
 use mathlib.Core.Path.{◌≡◌, refl, sym, ap, ap₂, ◌∙◌}
 use mathlib.Core.Logic.{by_cases}
-use mathlib.Core.Bool.{Bool, true, false, ◌&&◌, ◌||◌, or-false, and_false}
+use mathlib.Core.Bool.{Bool, true, false, ◌&&◌, ◌||◌, or-false, and-false}
 use mathlib.Core.List.{List}
 use native.Mathlib.Decide.{ℕ_discrete, dec_lt}
 use native.Mathlib.Omega.{arith}
@@ -26,7 +26,7 @@ module _ (label readers : ℕ) (before : List ℕ) where
     long = refl;
     has = λ r l known.
         sym (ap (λ b. holds 64 (get_or before r 0) l || (eqb l label && b)) (sym (none_below r (marks readers r)))
-        ∙ ap (λ b. holds 64 (get_or before r 0) l || b) (and_false (eqb l label)) ∙ or-false _);
+        ∙ ap (λ b. holds 64 (get_or before r 0) l || b) (and-false (eqb l label)) ∙ or-false _);
   }
 
   -- on to a task, up to which none is marked
@@ -40,7 +40,7 @@ module _ (label readers : ℕ) (before : List ℕ) where
         (by_cases (dec_lt r from)
         (λ less. rw (lt-ltb r from less, lt-ltb r to (omega arith)))
         (λ past. by_cases (dec_lt r to)
-        (λ less. rw (none r (omega arith) less, and_false (ltb r from), and_false (ltb r to)))
+        (λ less. rw (none r (omega arith) less, and-false (ltb r from), and-false (ltb r to)))
         (λ over. rw (le-ltb r from (omega arith), le-ltb r to (omega arith)))));
   }
 
@@ -106,7 +106,7 @@ module _ (readers : List ℕ) where
   pub none_read : (tasks : ℕ) → ReadLabels 0 tasks readers (replicate 32 0)
   none_read tasks = record {
     has = λ r l known few.
-        no_masks r known l ∙ sym (rw (← none_below l (marks (get_or readers l 0) r)) (and_false (ltb r tasks)));
+        no_masks r known l ∙ sym (rw (← none_below l (marks (get_or readers l 0) r)) (and-false (ltb r tasks)));
   }
 
   -- one label more
@@ -119,7 +119,7 @@ module _ (readers : List ℕ) where
         ∙ by_cases (ℕ_discrete k l)
         (λ same.
         rw (same, le-ltb l l (omega arith), lt-ltb l (l + 1) (omega arith), eq-eqb l l refl)
-        (ap (λ b. b || (ltb r tasks && marks (get_or readers l 0) r)) (and_false (ltb r tasks))))
+        (ap (λ b. b || (ltb r tasks && marks (get_or readers l 0) r)) (and-false (ltb r tasks))))
         (λ other.
         rw (ne_eqb k l other)
         (or-false _ ∙ ap (λ b. ltb r tasks && b) (below_same l k (marks (get_or readers k 0) r) other)));

@@ -1,5 +1,7 @@
 // The labels that each task writes and those that it reads, as masks: the most significant of 64 bits stands for label 0.
 // The two masks of a writer and a reader have the labels in common that go from the one to the other.
+#![tactic(auto)]
+
 ghost use Rattle.std.specs.Prelude.{◌≡◌, ◌<◌, ◌≤◌, length, replicate};
 ghost use Rattle.label_masks.specs.LabelMasks.{LabelAdded, ReadLabels, WrittenLabels};
 

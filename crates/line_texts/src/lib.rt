@@ -1,4 +1,6 @@
 // The lines of the text that have no copies, each put into lent bytes at a place; the answer is the next place.
+#![tactic(auto)]
+
 ghost use Rattle.std.specs.Prelude.{[], ◌∷◌, ◌++◌};
 ghost use Rattle.outcomes.specs.Outcome.{refuses};
 ghost use Rattle.printing.specs.Printed.{chain_text, text_of};

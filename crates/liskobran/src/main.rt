@@ -1,6 +1,8 @@
 // The printing program (document 01): reads an image from standard input and prints its text, or the one line of its
 // refusal. The text is made whole before anything is written, so that it goes out once and in as few writes as the
 // system takes it.
+#![tactic(auto)]
+
 use libc::{STDIN_FILENO, STDOUT_FILENO};
 
 // An image of any length is answered by its first 1,024 bytes. No field of a table lies past byte 480; so of an image

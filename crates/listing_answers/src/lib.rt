@@ -1,4 +1,6 @@
 // The listing that a case asks for, put to the proved libraries, and the answer told, for the program that runs the cases.
+#![tactic(auto)]
+
 use questions::ListingAnswer;
 use telling::{complain, tell_bytes, tell_refusal};
 

@@ -1,1 +1,3 @@
 // A listing taken out of its bytes: definitions (specs/) and laws (proofs/), no code.
+#![tactic(auto)]
+

@@ -1,6 +1,6 @@
 -- Searches below a bound for a number that entries of a list tell. Assumes nothing.
 use Prim.Native.Nat.{ℕ, zero, suc, ◌<◌}
-use mathlib.Core.Bool.{Bool, true, false, ◌&&◌, ◌||◌, and_false}
+use mathlib.Core.Bool.{Bool, true, false, ◌&&◌, ◌||◌, and-false}
 use mathlib.Core.Path.{◌≡◌, refl, ap, ap₂, ◌∙◌}
 use mathlib.Core.List.{List, [], ◌∷◌}
 use borrow.Author.Tests.{eq-eqb, eqb-true}
@@ -39,7 +39,7 @@ pub some_told : (n : ℕ) (test : ℕ → Bool) (tells : ℕ → Bool) (number :
     → some_below n (λ i. test i && some_of (λ x. tells x && eqb i (number x)) xs)
     ≡ some_of (λ x. tells x && test (number x)) xs
 unfolding some_of
-some_told n test tells number within [] = some_below_nothing n _ (λ i below. and_false (test i))
+some_told n test tells number within [] = some_below_nothing n _ (λ i below. and-false (test i))
 some_told n test tells number within (x ∷ xs) =
     some_below_same n _ _ (λ i below. parted (test i) (tells x) (eqb i (number x)) _)
     ∙ some_below_or n (λ i. (tells x && test i) && eqb i (number x)) _

@@ -1,5 +1,7 @@
 // Searches and collections below a bound: definitions (specs/) and their laws (proofs/). One function: how far a count goes
 // in an array.
+#![tactic(auto)]
+
 ghost use Rattle.std.specs.Prelude.{◌≡◌, min};
 
 // How many of so many entries an array holds that has room for `most`.

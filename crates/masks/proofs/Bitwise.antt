@@ -2,7 +2,7 @@
 use Prim.Native.Nat.{ℕ, zero, suc, ◌+◌, ◌-◌, ◌/◌, ◌%◌, ◌^◌, ◌<◌, min, max}
 use mathlib.Core.Path.{◌≡◌, refl, sym, ap, ◌∙◌}
 use mathlib.Core.Logic.{by_cases}
-use mathlib.Core.Bool.{Bool, true, false, ◌&&◌, ◌||◌, and_false}
+use mathlib.Core.Bool.{Bool, true, false, ◌&&◌, ◌||◌, and-false}
 use native.Mathlib.Decide.{dec_lt}
 use native.Mathlib.Nat.{mod-lt, zero-div, div-eq_of_lt, div_self, pow-suc, mul-mod_left}
 use native.Mathlib.Omega.{arith}
@@ -65,7 +65,7 @@ or_holds =
 -- 0 holds nothing
 pub zero_holds : (width i : ℕ) → holds width 0 i ≡ false
 unfolding holds
-zero_holds width i = rw (zero-div (2 ^ (width - suc i))) (and_false (ltb i width))
+zero_holds width i = rw (zero-div (2 ^ (width - suc i))) (and-false (ltb i width))
 
 -- a power of 2 has one bit
 same_place : (k : ℕ) → 2 ^ k / 2 ^ k % 2 ≡ 1

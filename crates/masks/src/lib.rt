@@ -1,5 +1,7 @@
 // Masks of labels and of tasks (document 01, Table image: "Of the readers field the most significant bit stands for task
 // 0"), by their width: definitions and laws (specs/, proofs/); and the labels of a mask, from the first to the next.
+#![tactic(auto)]
+
 ghost use Rattle.std.specs.Prelude.{◌≡◌, ◌-◌, ◌<◌};
 ghost use Rattle.std.specs.Int.Count.{count_leading_zeros};
 ghost use Rattle.masks.specs.Masks.{alone};

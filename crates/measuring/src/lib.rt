@@ -1,5 +1,7 @@
 // The frames and copies of a core of a table, counted over a round: of a table that is passed by value, for those who need
 // no more than the length of a listing.
+#![tactic(auto)]
+
 ghost use Rattle.frames.specs.Counts.{RightRound, CountsFrames};
 
 use frames::counts::count_frames;

@@ -1,1 +1,3 @@
 // What is said to a question: definitions (specs/) and laws (proofs/), no code.
+#![tactic(auto)]
+

@@ -1,5 +1,7 @@
 // Fields put into lent bytes one after the other (document 01, Copies and frames): most significant bit first, and zero
 // bits to the end of the last byte. A buffer that is too short holds the first bytes.
+#![tactic(auto)]
+
 ghost use Rattle.std.specs.Prelude.{List, ◌++◌, ℕ, ◌≤◌, ◌<◌, ◌^◌};
 ghost use Rattle.bits.specs.Packing.{bits_of};
 ghost use Rattle.packing.specs.Inked.{Inked, Finished, Countable};

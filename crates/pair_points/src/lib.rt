@@ -1,5 +1,7 @@
 // The points of a pair of tasks, asked of a table: first 12, then 13 (document 01, Numbers that say no), then P(n) and
 // Q(n).
+#![tactic(auto)]
+
 ghost use Rattle.std.specs.Prelude.{◌≡◌, ◌&&◌, leb, ltb, get_or};
 ghost use Rattle.lists.specs.Lists.{some_below};
 ghost use Rattle.times.specs.Releases.{every};

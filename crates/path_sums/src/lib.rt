@@ -1,4 +1,6 @@
 // What is counted of the basic paths of a chain (document 01, Age of a chain; document 02, C-11).
+#![tactic(auto)]
+
 ghost use Rattle.std.specs.Prelude.{◌≡◌, max, ◌+◌, ◌<◌, ◌≤◌, ◌^◌};
 ghost use Rattle.path_sums.specs.Sums.{least_with, with_path, moved_to};
 

@@ -1,5 +1,7 @@
 // The basic paths of a chain, gone through from one to the next (document 01, Age of a chain). A chain has up to 1,000,000
 // starts and at most so many basic paths as its slowest task has releases in a round: the walk goes along those.
+#![tactic(auto)]
+
 ghost use Rattle.std.specs.Prelude.{◌≡◌, ℕ, ◌<◌, ◌≤◌};
 ghost use Rattle.quotients.specs.Inverses.{InversesOf};
 ghost use Rattle.paths.specs.Walks.{RightChain, SumsOfRound, first_walk};

@@ -1,5 +1,7 @@
 // Whether a tick is a point of a pair of tasks (document 01: Points; Copies and frames). With a period of 0 the answers are
 // what the definitions give; a table has none (document 01: refusal 5).
+#![tactic(auto)]
+
 ghost use Rattle.std.specs.Prelude.{◌≡◌};
 ghost use Rattle.times.specs.PointTests.{publishing_test, reading_test};
 

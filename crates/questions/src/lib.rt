@@ -1,5 +1,7 @@
 // The three questions asked of a table image, and what answers them (document 01, What the generator covers: "Each
 // question is asked of the table image itself"). What each answer says: specs/.
+#![tactic(auto)]
+
 ghost use Rattle.std.specs.Prelude.{◌≡◌, length};
 ghost use Rattle.questions.specs.Answers.{said_of_ages, said_of_listing, said_of_points};
 ghost use Rattle.questions.specs.Questions.{ages, bytes_listed, lent_after, listing, points};

@@ -1,4 +1,6 @@
 // Division by a number that stays the same, as a product and a shift: of a number below 2^25, by one up to 1,000,000.
+#![tactic(auto)]
+
 ghost use Rattle.std.specs.Prelude.{◌≡◌, ℕ, ◌*◌, ◌/◌, ◌^◌, ◌<◌, ◌≤◌, get_or, length};
 ghost use Rattle.quotients.specs.Inverses.{InverseOf, InversesOf};
 

@@ -1,5 +1,7 @@
 // A reader of fields (document 01, Table image): "Fields are packed without gaps, most significant bit first." Thin
 // functions take it apart and leave the work to `bits`; whoever has an image and a place calls `next_field`.
+#![tactic(auto)]
+
 ghost use Rattle.std.specs.Prelude.{◌≡◌, min};
 ghost use Rattle.bits.specs.Found.{found_at, said_of_found};
 ghost use Rattle.reader.specs.Places.{place_after};

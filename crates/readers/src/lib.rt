@@ -1,5 +1,7 @@
 // The readers of a label, from one to the next (document 01, Copies and frames: "within a label, rising task"), and
 // what a readers field marks when it serves as a mask (proofs/).
+#![tactic(auto)]
+
 ghost use Rattle.std.specs.Prelude.{◌≡◌};
 ghost use Rattle.readers.specs.NextReader.{next_reader};
 

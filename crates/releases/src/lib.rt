@@ -1,4 +1,6 @@
 // Releases of one task beside a tick (document 01: "A task with period T is released at 0, T, 2T and so on").
+#![tactic(auto)]
+
 ghost use Rattle.std.specs.Prelude.{◌≡◌, ◌<◌, ◌+◌, ◌-◌, ◌^◌, suc};
 ghost use Rattle.times.specs.Releases.{is_release, first_from, last_to};
 

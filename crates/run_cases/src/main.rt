@@ -7,6 +7,8 @@
 // `ages` (chain) or `directly` (two periods and n, and no image), and the image stands in hexadecimal. A line that begins
 // with # is a remark. Of each case the name is printed, a colon, and what the proved libraries answer. The file `stdout`
 // has what document 01 says.
+#![tactic(auto)]
+
 use answers::{ask_ages, ask_directly, ask_image, ask_points};
 use case_lines::{case_at, passed_over};
 use case_words::Question;

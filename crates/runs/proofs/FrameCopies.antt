@@ -1,7 +1,7 @@
 -- Which copies are due at a tick, by the frames of a table's listings: those that its cores have at that instant of the
 -- round. Assumes nothing.
 use Prim.Native.Nat.{ℕ, ◌%◌, ◌<◌}
-use mathlib.Core.Bool.{Bool, true, false, cond, ◌&&◌, ◌||◌, or-false, and_false}
+use mathlib.Core.Bool.{Bool, true, false, cond, ◌&&◌, ◌||◌, or-false, and-false}
 use mathlib.Core.Path.{◌≡◌, refl, sym, ap₂, ◌∙◌, subst}
 use mathlib.Core.List.{List, [], ◌∷◌}
 use lib.Dec.{eqb}
@@ -42,7 +42,7 @@ module _ (test : Copy → Bool) where
       → some_of (λ frame. some_of test (cond (eqb frame.start s) frame.copies [])) (frames_at t copies)
       ≡ (eqb t s && some_of test copies)
   unfolding some_of frames_at
-  some_frame s t [] = sym (and_false (eqb t s))
+  some_frame s t [] = sym (and-false (eqb t s))
   some_frame s t (copy ∷ more) = go (eqb t s)
     where
       go : (b : Bool) → (some_of test (cond b (copy ∷ more) []) || false) ≡ (b && some_of test (copy ∷ more))

@@ -1,7 +1,7 @@
 -- The listings of a sound table, carried out core by core and frame by frame, round after round, make the listed
 -- copies: the two plans are the same. Assumes nothing.
 use Prim.Native.Nat.{ℕ, ◌%◌, ◌<◌}
-use mathlib.Core.Bool.{true, ◌&&◌, ◌||◌, or-false, and_false}
+use mathlib.Core.Bool.{true, ◌&&◌, ◌||◌, or-false, and-false}
 use mathlib.Core.Path.{◌≡◌, refl, sym, ap, ◌∙◌, subst, subst₂, fun_ext}
 use native.Mathlib.Nat.{mod-lt}
 use lib.Dec.{eqb}
@@ -39,7 +39,7 @@ module _ (table : Table) (sound : Sound table) where
       (some_below_nothing table.labels (λ k. some_below table.tasks (reading (is_write_of l) table core s k))
       (λ k below.
       some_below_nothing table.tasks (reading (is_write_of l) table core s k) (λ q below.
-      and_false (eqb (core_of table q) core && served table k q s))))
+      and-false (eqb (core_of table q) core && served table k q s))))
       ∙ or-false (some_below table.labels (writing (is_write_of l) table core s))
 
   -- and a read of it for r
@@ -49,7 +49,7 @@ module _ (table : Table) (sound : Sound table) where
       copies_have (is_read_of l r) table core s
       ∙ ap (λ b. b || some_below table.labels (λ k. some_below table.tasks (reading (is_read_of l r) table core s k)))
       (some_below_nothing table.labels (writing (is_read_of l r) table core s) (λ k below.
-      and_false (eqb (core_of table (writer_of table k)) core && written table k s)))
+      and-false (eqb (core_of table (writer_of table k)) core && written table k s)))
 
   in_round : (t : ℕ) → t % hyperperiod_of table < hyperperiod_of table
   in_round t = mod-lt t sound.round_positive

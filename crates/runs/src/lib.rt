@@ -1,1 +1,3 @@
 // What jobs read under a set of copies: definitions (specs/) and theorems (proofs/), no code.
+#![tactic(auto)]
+

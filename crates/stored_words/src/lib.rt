@@ -1,5 +1,7 @@
 // Words of 32 bits stored into lent bytes, most significant byte first (document 01, Copies and frames: "Most significant
 // bit first throughout"), as far as the bytes go.
+#![tactic(auto)]
+
 ghost use Rattle.std.specs.Prelude.{◌≡◌, ◌+◌, ◌*◌, ◌≤◌, ◌<◌, ◌^◌, set};
 ghost use Rattle.std.proofs.lemmas.List.Edits.{sets};
 ghost use Rattle.bits.specs.Packing.{bits_of, bytes_of};

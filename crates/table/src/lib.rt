@@ -1,5 +1,7 @@
 // The table and its refusals, as the program holds them (document 01: Table image, Numbers that say no). What each
 // stands for, and what an image says of them, is said in specs/; the code that reads an image stands in the crates above.
+#![tactic(auto)]
+
 ghost use Rattle.std.specs.Prelude.{◌≡◌, ◌&&◌, eqb};
 ghost use Rattle.table.specs.Table.{marks};
 ghost use Rattle.table.specs.Refusals.{number_of};

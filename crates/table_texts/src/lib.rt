@@ -1,5 +1,7 @@
 // The text of a table's cores, made in lent bytes (document 01, The printing program: "All cores come first"), and whether
 // the listings of all of them are short enough to be printed.
+#![tactic(auto)]
+
 ghost use Rattle.std.specs.Prelude.{◌∷◌, ◌++◌};
 ghost use Rattle.lists.specs.Lists.{each_below};
 ghost use Rattle.table.specs.Table.{hyperperiod_of};

@@ -1,5 +1,7 @@
 // The words that tell an answer, each after a space, for the program that runs the cases. They are written to standard
 // output, and no contract can say what is written.
+#![tactic(auto)]
+
 use libc::STDOUT_FILENO;
 use table::Refusal;
 

@@ -1,5 +1,7 @@
 // The text of the printing program, made in lent bytes (document 01, The printing program): bytes, words and numbers put at
 // a place; each function answers the next place. What a line says: crates/printing, specs/.
+#![tactic(auto)]
+
 ghost use Rattle.std.specs.Prelude.{[], ◌∷◌};
 ghost use Rattle.printing.specs.Words.{decimal, named};
 ghost use Rattle.texts.specs.Puts.{PutsText};

@@ -1,1 +1,3 @@
 // What is proved, under the user's three demands: proofs/Theorems.antt. No code.
+#![tactic(auto)]
+

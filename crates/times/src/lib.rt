@@ -1,5 +1,7 @@
 // Releases, the hyperperiod and the points of a pair of tasks (document 01: Table image, Points): definitions and laws
 // (specs/, proofs/), and the code of the hyperperiod.
+#![tactic(auto)]
+
 pub mod divisors;
 pub mod rounds;
 

@@ -1,5 +1,7 @@
 // The whole text that is printed of an image, made in lent bytes (document 01, The printing program): of any bytes,
 // accepted or refused.
+#![tactic(auto)]
+
 ghost use Rattle.std.specs.Prelude.{◌≡◌, length};
 ghost use Rattle.outcomes.specs.Outcome.{gives};
 ghost use Rattle.table.specs.Image.{Whole, read_image};
