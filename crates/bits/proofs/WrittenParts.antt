@@ -1,7 +1,7 @@
 -- The bits of a value in two parts, and that only its lower bits count. No contract cites this file. Assumes nothing.
 use Prim.Native.Nat.{ℕ, zero, suc, ◌+◌, ◌-◌, ◌*◌, ◌/◌, ◌%◌, ◌^◌, ◌<◌, ◌≤◌}
 use mathlib.Core.Path.{◌≡◌, refl, sym, ap, ap₂, ◌∙◌}
-use mathlib.Core.List.{◌∷◌, ◌++◌}
+use mathlib.Core.List.{◌++◌}
 use native.Mathlib.Nat.{zero-add, suc-add, add_comm}
 use native.Mathlib.Omega.{arith}
 use lib.Pow.{shr-shr, field, mod-mod-pow, high, low}
