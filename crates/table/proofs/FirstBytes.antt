@@ -1,12 +1,11 @@
 -- An image longer than any table is answered by its first bytes. Document 01: "The largest image is 480 bytes"; so the
 -- printing program need not read all of an image to answer it as the whole. No contract cites this file. Assumes
 -- nothing.
-use Prim.Native.Nat.{ℕ, ◌*◌, ◌-◌, ◌%◌, ◌≤◌, ◌<◌}
+use Prim.Native.Nat.{ℕ, ◌*◌, ◌≤◌, ◌<◌}
 use mathlib.Core.List.{List}
 use mathlib.Core.Path.{◌≡◌, refl, sym, ap}
 use native.Mathlib.Omega.{arith}
 use borrow.Author.Tests.{lt-leb}
-use lib.Dec.{leb, eqb}
 use lib.ListN.{length, take}
 use lib.Seq.{get_or-take, length-take-le}
 use Rattle.bits.specs.Bits.{bit_count}

@@ -1,7 +1,7 @@
 -- A refusal is fixed by its number, and the image's answer by what it says. Assumes nothing.
 use Prim.Native.Nat.{ℕ}
 use mathlib.Core.Path.{◌≡◌, refl, sym, ap, ◌∙◌}
-use mathlib.Core.List.{List, [], ◌∷◌}
+use mathlib.Core.List.{[], ◌∷◌}
 use lib.ListN.{get_or}
 use Rattle.outcomes.specs.Outcome.{Outcome, refuses}
 use Rattle.outcomes.proofs.Outcomes.{gives_no_refusal}

@@ -2,19 +2,18 @@
 -- inside or before a bit of the fill. Assumes nothing.
 use Prim.Native.Nat.{ℕ, zero, suc, ◌+◌, ◌≤◌}
 use mathlib.Core.Bool.{Bool, true, false, cond}
-use mathlib.Core.Path.{◌≡◌, refl, sym, ap, ◌∙◌}
+use mathlib.Core.Path.{◌≡◌, refl, sym, ◌∙◌}
 use mathlib.Core.List.{List, [], ◌∷◌, ◌++◌}
 use native.Mathlib.Nat.{add-zero, add-suc}
 use native.Mathlib.Numerals.{add-one}
 use native.Mathlib.Omega.{arith}
 use borrow.Author.Tests.{le-leb}
 use lib.Dec.{leb, eqb}
-use lib.ListN.{length}
 use Rattle.bits.specs.Bits.{bit_count, field_at}
 use Rattle.bits.specs.Found.{found_at}
 use Rattle.outcomes.specs.Outcome.{Outcome, gives, refuses, asked_of}
 use Rattle.outcomes.proofs.Outcomes.{same_number, gives_no_refusal}
-use Rattle.taking.specs.Reading.{Taker, Taken, done, ◌then◌, field, in_row, check, fill_bits, zero_bits}
+use Rattle.taking.specs.Reading.{Taker, Taken, field, in_row, check, fill_bits, zero_bits}
 use Rattle.taking.specs.Reading.{nothing_follows}
 use Rattle.taking.proofs.Filling.{ends_by}
 

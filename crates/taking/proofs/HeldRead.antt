@@ -6,7 +6,7 @@ use mathlib.Core.List.{List, [], ◌∷◌, ◌++◌, append-nil}
 use native.Mathlib.Nat.{add-zero, add_assoc}
 use native.Mathlib.Omega.{arith}
 use borrow.Author.Tests.{le-leb}
-use lib.ListN.{length, get_or, take, length-append}
+use lib.ListN.{length, get_or, take}
 use lib.Seq.{take-suc, take-length}
 use Rattle.lists.specs.Lists.{each_of}
 use Rattle.lists.proofs.Each.{each_of_append}
