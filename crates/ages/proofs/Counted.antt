@@ -35,11 +35,11 @@ each_below_only : {A : Type 0} {x : A} (n : ℕ) (adds : ℕ → List A)
     → Memᴰ x (each_below n adds) → (k : ℕ) × (k < n) × Memᴰ x (adds k)
 unfolding each_below
 each_below_only zero adds there = absurd (Memᴰ.not-nil there)
-each_below_only (suc n) adds there =
+each_below_only {x = x} (suc n) adds there =
     ⊎_elim
     (λ earlier.
-    let (k, below, added) = each_below_only n adds earlier in
-    (k, omega arith, added))
+    let found : (k : ℕ) × (k < n) × Memᴰ x (adds k) = each_below_only n adds earlier in
+    (found.0, omega arith, found.2))
     (λ last. (n, omega arith, last))
     (Memᴰ.append_cases (each_below n adds) there)
 

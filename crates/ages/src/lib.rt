@@ -1,3 +1,2 @@
 // The age of a chain: definitions (specs/); the code follows.
 #![tactic(auto)]
-

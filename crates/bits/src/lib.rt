@@ -6,7 +6,7 @@ ghost use Rattle.bits.specs.Bits.{field_at};
 ghost use Rattle.bits.specs.Found.{found_at, said_of_found};
 
 // What stands at a place: the field's value, or nothing, since the bytes end inside or before it.
-#[derive(Drop)]
+#[derive(Clone, Copy)]
 pub enum Found {
     Value(u32),
     Ends,

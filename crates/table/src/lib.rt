@@ -7,7 +7,7 @@ ghost use Rattle.table.specs.Table.{marks};
 ghost use Rattle.table.specs.Refusals.{number_of};
 
 // Why an image or a question is refused: the thirteen rows of document 01's table. Their numbers: specs/Refusals.antt.
-#[derive(Drop)]
+#[derive(Clone, Copy)]
 pub enum Refusal {
     Ends,
     Version,
@@ -25,7 +25,7 @@ pub enum Refusal {
 }
 
 // The answer of an image: its table is accepted, or it is refused, at a bit of the image.
-#[derive(Drop)]
+#[derive(Clone, Copy)]
 pub enum Answer {
     Accepted,
     Refused { refusal: Refusal, place: usize },

@@ -6,7 +6,7 @@ pub mod divisors;
 pub mod rounds;
 
 // What fixes a task's releases. Document 01: "A task with period T is released at 0, T, 2T and so on".
-#[derive(Drop)]
+#[derive(Clone, Copy)]
 pub struct Timing {
     pub period: u32,
 }

@@ -8,7 +8,7 @@ use crate::divisors::lcm_up_to_limit;
 use lists::held;
 
 // The hyperperiod where it is at most 1,000,000, and otherwise that it is above.
-#[derive(Drop)]
+#[derive(Clone, Copy)]
 pub enum Round {
     Within(u32),
     Above,

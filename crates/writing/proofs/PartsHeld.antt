@@ -58,7 +58,7 @@ chain_holds table =
     (λ before. field_holds _ 5 8 (chain_task table before) (λ v right. refl)) size image at given inside e in
     record {
       fields = row.fields;
-      own = rw (e0, row.own_val.1, row.own_val.0);
+      own = rw (e0, row.own.1, row.own.0);
       held = row.held;
       next = row.next;
     })
@@ -84,7 +84,7 @@ fill_holds image at given inside e =
     (λ before. field_holds _ 1 9 (λ bit. eqb bit 0) (λ v right. ap (λ b. bits 1 b ∷ []) (eqb-true v 0 right)))
     n image at both.taken inside both.one in
     let none : bits_of_all row.fields ≡ replicate n 0 =
-    ap bits_of_all row.own_val.1 ∙ zero_bits_lem both.taken.value ∙ ap (λ m. replicate m 0) row.own_val.0 in
+    ap bits_of_all row.own.1 ∙ zero_bits_lem both.taken.value ∙ ap (λ m. replicate m 0) row.own.0 in
     let held = subst (Held image at) none row.held in
     let long = length-replicate {A = ℕ} n 0 in
     let most = held.inside in
