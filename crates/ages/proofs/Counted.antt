@@ -38,7 +38,7 @@ each_below_only zero adds there = absurd (Memᴰ.not-nil there)
 each_below_only {x = x} (suc n) adds there =
     ⊎_elim
     (λ earlier.
-    let found : (k : ℕ) × (k < n) × Memᴰ x (adds k) = each_below_only n adds earlier in
+    let found : (k : ℕ) × (k < n) × Memᴰ x (adds k) = each_below_only {x = x} n adds earlier in
     (found.0, omega arith, found.2))
     (λ last. (n, omega arith, last))
     (Memᴰ.append_cases (each_below n adds) there)

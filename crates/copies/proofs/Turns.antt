@@ -4,8 +4,8 @@ use Prim.Native.Nat.{ℕ, ◌+◌, ◌<◌, ◌≤◌, min}
 use mathlib.Core.Path.{◌≡◌, refl, sym, ap, ◌∙◌}
 use mathlib.Core.List.{List, [], ◌∷◌, ◌++◌}
 use native.Mathlib.Omega.{arith}
-use lib.ListN.{length, length-append}
-use Rattle.lists.specs.Lists.{each_below, each_of}
+use lib.ListN.{length}
+use Rattle.lists.specs.Lists.{each_below}
 use Rattle.table.specs.Table.{hyperperiod_of}
 use Rattle.table.specs.declared.Table.{Table}
 use Rattle.copies.specs.Copies.{Copy, Frame, copies_at, frames_of}

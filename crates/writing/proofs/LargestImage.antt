@@ -1,16 +1,15 @@
 -- "The largest image is 480 bytes": how many bits the fields of a table that meets the rules have. Assumes nothing.
 use Prim.Native.Nat.{ℕ, zero, suc, ◌+◌, ◌*◌, ◌<◌, ◌≤◌}
-use mathlib.Core.Path.{◌≡◌, refl, ap, ◌∙◌}
+use mathlib.Core.Path.{◌≡◌, ap, ◌∙◌}
 use mathlib.Core.List.{List, [], ◌∷◌, ◌++◌}
 use native.Mathlib.Nat.{le_of_eq}
 use native.Mathlib.Omega.{arith}
-use lib.ListN.{length, length-append}
+use lib.ListN.{length}
 use Rattle.lists.specs.Lists.{each_below, each_of}
 use Rattle.lists.proofs.Each.{each_of_append}
 use Rattle.outcomes.specs.Outcome.{gives}
 use Rattle.bits.specs.Bits.{bit_count}
-use Rattle.bits.specs.Packing.{Field, bits, bits_of, bits_of_all}
-use Rattle.bits.proofs.Written.{written_length}
+use Rattle.bits.specs.Packing.{Field, bits}
 use Rattle.bits.proofs.Held.{bits_in}
 use Rattle.bits.proofs.HowMany.{bits_none, bits_more, bits_both}
 use Rattle.table.specs.Table.{chain_of}

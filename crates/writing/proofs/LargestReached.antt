@@ -1,6 +1,6 @@
 -- "The largest image is 480 bytes": so many are reached. A table of 32 tasks, 64 labels and 16 chains of 8 tasks; each
 -- rule is a test that computes. Assumes nothing.
-use Prim.Native.Nat.{ℕ, suc, ◌<◌, ◌≤◌, ◌^◌}
+use Prim.Native.Nat.{ℕ, suc, ◌<◌, ◌^◌}
 use mathlib.Core.Bool.{Bool, true, false, not}
 use mathlib.Core.Path.{◌≡◌, refl, subst, sym, ◌∙◌}
 use mathlib.Core.List.{List, [], ◌∷◌, ◌++◌}
@@ -17,7 +17,6 @@ use Rattle.times.specs.Hyperperiod.{gcd_in, gcd, lcm, lcm_from, lcm_of}
 use Rattle.table.specs.Table.{core_of, period_of, writer_of, readers_of, marks, reads, joins, chain_of, hyperperiod_of}
 use Rattle.table.specs.Image.{Task, Label, Whole, between, right_readers, table_of, rows_of, read_image}
 use Rattle.table.specs.Rules.{ChainMeets, MeetsRules}
-use Rattle.table.specs.declared.Table.{Table}
 use Rattle.table.proofs.FieldRules.{right_marked}
 use Rattle.table.proofs.MeetsRules.{chain_at_lem}
 use Rattle.table.proofs.Ranges.{between_bounds}
