@@ -1,3 +1,2 @@
 // What jobs read under a set of copies: definitions (specs/) and theorems (proofs/), no code.
 #![tactic(auto)]
-
