@@ -1,6 +1,6 @@
 -- The first number that a mask holds: as many as it has leading zeros; and what the others have to add. No contract
 -- cites this file. Assumes nothing.
-use Prim.Native.Nat.{ℕ, zero, suc, ◌+◌, ◌-◌, ◌*◌, ◌/◌, ◌%◌, ◌^◌, ◌<◌, ◌≤◌}
+use Prim.Native.Nat.{ℕ, zero, suc, ◌-◌, ◌*◌, ◌/◌, ◌%◌, ◌^◌, ◌<◌, ◌≤◌}
 use mathlib.Core.Path.{◌≡◌, refl, sym, ap, ap₂, ◌∙◌}
 use mathlib.Core.Bool.{cond}
 use mathlib.Core.List.{List, [], ◌++◌, append-nil, append_assoc}
@@ -10,7 +10,7 @@ use lib.Dec.{eqb}
 use lib.Count.{count_leading_zeros, leading_of_zero}
 use Rattle.lists.specs.Lists.{each_below}
 use Rattle.lists.proofs.Below.{each_below_same}
-use Rattle.masks.specs.Masks.{holds, alone, each_held}
+use Rattle.masks.specs.Masks.{alone, each_held}
 use Rattle.masks.proofs.Counted.{earlier_bits, last_bit, half_below}
 
 module _ {A : Type 0} (adds : ℕ → List A) where
