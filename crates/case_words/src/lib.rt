@@ -20,19 +20,19 @@ pub enum Question {
 pub fn question_of(part: &[u8]) -> Question
     ensures { Goes result part.now }
 {
-    if check::same(part, b" image") {
+    if part == b" image".as_slice() {
         return Question::Image;
     }
-    if check::same(part, b" points") {
+    if part == b" points".as_slice() {
         return Question::Points;
     }
-    if check::same(part, b" listing") {
+    if part == b" listing".as_slice() {
         return Question::Listing;
     }
-    if check::same(part, b" ages") {
+    if part == b" ages".as_slice() {
         return Question::Ages;
     }
-    if check::same(part, b" directly") {
+    if part == b" directly".as_slice() {
         return Question::Directly;
     }
     Question::Unknown
