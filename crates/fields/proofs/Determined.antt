@@ -1,13 +1,13 @@
 -- Two answers that say the same of a field are the same. Assumes nothing.
 use Prim.Native.Nat.{ℕ}
 use mathlib.Core.Path.{◌≡◌, refl, sym, ap, ◌∙◌}
-use Rattle.outcomes.specs.Outcome.{Outcome, gives, refuses, asked_of}
+use Rattle.outcomes.specs.Outcome.{Outcome, gives, asked_of}
 use Rattle.taking.specs.Reading.{Taken}
 use Rattle.table.specs.Refusals.{said_with, said_of_image}
 use Rattle.table.proofs.Refusals.{same_answer}
 use Rattle.table.specs.declared.Answer.{Answer}
 use Rattle.table.specs.declared.Answer.TheVariants.{Accepted, Refused}
-use Rattle.fields.specs.GotField.{got, GotField}
+use Rattle.fields.specs.GotField.{GotField}
 use Rattle.fields.specs.declared.Got.{Got}
 
 -- the answer alone

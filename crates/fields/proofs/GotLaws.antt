@@ -1,7 +1,7 @@
 -- A field by how taking it went: taken, refused, or not tried after an earlier refusal. No contract cites this file.
 -- Assumes nothing.
 use Prim.Native.Nat.{ℕ}
-use mathlib.Core.Path.{◌≡◌, refl, ap}
+use mathlib.Core.Path.{◌≡◌, ap}
 use Rattle.outcomes.specs.Outcome.{Outcome, gives, refuses}
 use Rattle.taking.specs.Reading.{Taken}
 use Rattle.table.specs.Refusals.{number_of}
