@@ -102,3 +102,9 @@ module _ (periods : List ℕ) where
       let positive : 0 < get_or periods 0 0 = omega (arith, published.right.each 0 (omega arith)) in
       let released : is_release task x ≡ true = rw first at published.released in
       rw first (sym (last_to_is task positive x x released (omega arith) (omega arith)))
+
+-- from the release before x, at which the task publishes, to the instant for task number i
+pub record Back (periods : List ℕ) (at i released instant : ℕ) : Type 0 where
+  pub published : PublishedAt periods at (released + get_or periods at 0)
+  pub near : released + get_or periods at 0 ≤ 32000000
+  pub gone : GoneBack periods at (released + get_or periods at 0) i instant

@@ -18,7 +18,7 @@ pub struct Four {
 // When a task publishes what stands at each of four instants.
 pub(crate) fn all_published(period: u32, factor: u32, shift: u32, t: Four) -> Four
     requires { InverseOf period factor shift × (period ≤ 1000000) × All (λ t. t ≤ 32000000) t }
-    ensures* { λ r. ⌜ Each (λ t r. (r ≡ job_end (every period) (first_from (every period) t)) × (r ≤ t + 2000000)) t r ⌝ }
+    ensures { Each (λ t r. (r ≡ job_end (every period) (first_from (every period) t)) × (r ≤ t + 2000000)) t result }
 {
     Four {
         a: published(period, factor, shift, t.a),
@@ -31,7 +31,7 @@ pub(crate) fn all_published(period: u32, factor: u32, shift: u32, t: Four) -> Fo
 // The task's last releases whose jobs end by each of four instants.
 pub(crate) fn all_taken_by(period: u32, factor: u32, shift: u32, x: Four) -> Four
     requires { InverseOf period factor shift × All (λ x. (period ≤ x) × (x ≤ 32000000)) x }
-    ensures* { λ r. ⌜ Each (λ x r. r ≡ last_to (every period) (x - period)) x r ⌝ }
+    ensures { Each (λ x r. r ≡ last_to (every period) (x - period)) x result }
 {
     Four {
         a: taken_by(period, factor, shift, x.a),
@@ -44,7 +44,7 @@ pub(crate) fn all_taken_by(period: u32, factor: u32, shift: u32, x: Four) -> Fou
 // The task's last releases at or before each of four instants.
 pub(crate) fn all_last_to(period: u32, factor: u32, shift: u32, t: Four) -> Four
     requires { InverseOf period factor shift × All (λ t. t ≤ 32000000) t }
-    ensures* { λ r. ⌜ Each (λ t r. r ≡ last_to (every period) t) t r ⌝ }
+    ensures { Each (λ t r. r ≡ last_to (every period) t) t result }
 {
     Four {
         a: last_to(period, factor, shift, t.a),
@@ -57,7 +57,7 @@ pub(crate) fn all_last_to(period: u32, factor: u32, shift: u32, t: Four) -> Four
 // Four instants, each so much earlier.
 pub(crate) fn all_less(x: Four, ticks: u32) -> Four
     requires { All (λ x. ticks ≤ x) x }
-    ensures* { λ r. ⌜ Each (λ x r. x ≡ r + ticks) x r ⌝ }
+    ensures { Each (λ x r. x ≡ r + ticks) x result }
 {
     Four {
         a: x.a - ticks,

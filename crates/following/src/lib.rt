@@ -25,7 +25,7 @@ pub fn passed_on(
 ) -> Four
     requires { RightPeriods periods.now to × InversesOf periods.now factors.now shifts.now to
         × All (λ t. t + 2000000 * (to - from) ≤ 32000000) t }
-    ensures* { λ r. ⌜ Each (λ t r. r ≡ passed (tasks_from periods.now from (to - from)) t) t r ⌝ }
+    ensures { Each (λ t r. r ≡ passed (tasks_from periods.now from (to - from)) t) t result }
 {
     let mut instants = t;
     let mut i = from;
@@ -47,7 +47,7 @@ pub fn end_from(
 ) -> Four
     requires { InversesOf periods.now factors.now shifts.now count
         × All (λ x. PassesOn periods.now at count x) x }
-    ensures* { λ r. ⌜ Each (λ x r. r ≡ end_from periods.now at count x) x r ⌝ }
+    ensures { Each (λ x r. r ≡ end_from periods.now at count x) x result }
 {
     let last = periods[count - 1];
     let passed = passed_on(periods, factors, shifts, at + 1, count, x);
@@ -65,7 +65,7 @@ pub fn last_start(
 ) -> Four
     requires { InversesOf periods.now factors.now shifts.now (at + 1)
         × All (λ x. PublishedAt periods.now at x × (x ≤ 32000000)) x }
-    ensures* { λ r. ⌜ Each (λ x r. r ≡ last_start periods.now at x) x r ⌝ }
+    ensures { Each (λ x r. r ≡ last_start periods.now at x) x result }
 {
     if at == 0 {
         return x;
