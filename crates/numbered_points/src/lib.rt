@@ -1,5 +1,5 @@
 // The points of a pair of tasks by their number n. Document 01, Points: with M the larger of the two periods, P(n) =
-// floor(typeof.n.M / Tw) · Tw and Q(n) = ceil(typeof.n.M / Tr) · Tr.
+// floor(n·M / Tw) · Tw and Q(n) = ceil(n·M / Tr) · Tr.
 #![tactic(auto)]
 
 ghost use Rattle.std.specs.Prelude.{◌≡◌};
