@@ -7,7 +7,7 @@ ghost use Rattle.following.specs.Fours.{All, Each};
 use crate::releases::{last_to, published, taken_by};
 
 // Four instants, or what belongs to each of them.
-#[derive(Drop)]
+#[derive(Clone, Copy)]
 pub struct Four {
     pub a: u32,
     pub b: u32,

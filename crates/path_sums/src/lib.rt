@@ -7,7 +7,7 @@ ghost use Rattle.path_sums.specs.Sums.{least_with, with_path, moved_to};
 // How far a chain was gone along: an instant at which a task of it publishes, the last start that it has published by
 // then, and that start's end; and of the basic paths before that start how many there are, the longest length, the worst
 // age and the best.
-#[derive(Drop)]
+#[derive(Clone, Copy)]
 pub struct Walk {
     pub instant: u32,
     pub start: u32,

@@ -4,11 +4,11 @@ use mathlib.Core.Path.{◌≡◌, ap, ◌∙◌}
 use native.Mathlib.Omega.{arith}
 use Rattle.following.specs.Following.{passed, tasks_from, PublishedAt, PassesOn}
 use Rattle.paths.proofs.Begins.{fewer, first_published, first_passes_on, first_near}
-use Rattle.paths.proofs.begun.Statement.{statement}
-use Rattle.paths.proofs.begun.Tie as tie
+use Rattle.paths.proofs.begun.Goals as goal
+use Rattle.paths.proofs.begun.Goals.{Start}
 
 -- each of the four is the instant at which the first start is published
-module _ (c : tie.Start) where
+module _ (c : Start) where
   abbrev First : ℕ → Type 0
   First r = r ≡ passed (tasks_from c.args.periods.now 1 (c.args.at + 1 - 1)) 0
 
@@ -28,8 +28,8 @@ module _ (c : tie.Start) where
   passes_on : {r : ℕ} → First r → PassesOn c.args.periods.now c.args.at c.args.count r
   passes_on is = rw (first is) (first_passes_on c.args.periods.now c.requires.0.1 c.requires.1)
 
-passed-on-requires : tie.Need-passed-on-requires
-passed-on-requires c κs =
+pub passed_on-instants-requires : goal.passed_on-instants-requires
+passed_on-instants-requires c =
     let right = c.requires.0.1.right in (
       fewer right _ (omega (arith, c.requires.1)),
       λ i below. c.requires.2 i (omega (arith, c.requires.1)),
@@ -41,10 +41,10 @@ passed-on-requires c κs =
       },
     )
 
-last-start-requires : tie.Need-last-start-requires
-last-start-requires c κs =
-    let start = c.before in
-    let each = c.passed_on.ensures in (
+pub last_start-starts-requires : goal.last_start-starts-requires
+last_start-starts-requires c =
+    let start = (goal.at.last_start-starts-requires c).Start in
+    let each = c.passed_on-instants.ensures in (
       λ i below. start.requires.2 i (omega (arith, start.requires.1)),
       record {
         a = published start each.a;
@@ -54,10 +54,10 @@ last-start-requires c κs =
       },
     )
 
-end-from-requires : tie.Need-end-from-requires
-end-from-requires c κs =
-    let start = c.before.before in
-    let each = c.before.passed_on.ensures in (
+pub end_from-ends-requires : goal.end_from-ends-requires
+end_from-ends-requires c =
+    let start = (goal.at.end_from-ends-requires c).Start in
+    let each = c.passed_on-instants.ensures in (
       start.requires.2,
       record {
         a = passes_on start each.a;
@@ -67,17 +67,11 @@ end-from-requires c κs =
       },
     )
 
-returns : tie.Need-returns
+pub returns : goal.returns
 returns c =
-    let known = c.before.before in
-    rw (c.end-from.ensures.a, c.before.last-start.ensures.a, first known.before known.passed_on.ensures.a)
+    let known = c in
+    rw (c.end_from-ends.ensures.a, c.last_start-starts.ensures.a, first (goal.at.returns c).Start known.passed_on-instants.ensures.a)
 
-pub begun-spec : {M : Type 1} → statement M
-begun-spec =
-    tie.close
-    (tie.spec
-    (λ c. omega (arith, c.requires.1, c.requires.0.1.right.few))  -- add-passed-on
-    passed-on-requires
-    last-start-requires
-    end-from-requires
-    returns)
+pub overflow_add-at : goal.overflow_add-at
+overflow_add-at c =
+    omega (arith, c.requires.1, c.requires.0.1.right.few)
