@@ -1,0 +1,18 @@
+-- `next_points::beside::reading_from` meets its contract, whichever task is the slower. Assumes nothing.
+use borrow.Author.Tests.{le-leb, lt-leb}
+use Rattle.next_points.specs.Next.{reading_from}
+use Rattle.next_points.proofs.beside.reading_from.Goals as goal
+
+pub returns-then-writer-reader : goal.returns-then-writer-reader
+unfolding reading_from
+returns-then-writer-reader c = rw (le-leb _ _ c.if-writer-reader.true)
+
+pub returns : goal.returns
+unfolding reading_from
+returns c =
+    rw (
+      lt-leb _ _ c.if-writer-reader.false,
+      c.first_from-2.ensures.0,
+      c.first_from.ensures.0,
+      c.after_previous.ensures,
+    )
