@@ -6,6 +6,7 @@ ghost use Rattle.std.specs.Prelude.{◌≤◌, length};
 use case_bytes::bytes_at;
 use case_words::{Question, asked_by, question_of};
 use lines::numbers::{Numbers, numbers_at};
+use lines::places::first_from;
 
 // A question, its numbers, and how many bytes its image has. A line that cannot be read asks the unknown question.
 #[derive(Drop)]
@@ -48,7 +49,7 @@ pub fn case_at(line: &[u8], start: usize, image: &mut [u8]) -> Case
     ensures { result.count ≤ length image.new }
 {
     if start < line.len() {
-        let end = bytes::scan::find(line, start + 1, line.len(), b' ');
+        let end = first_from(line, start + 1, b' ');
         let question = question_of(&line[start..end]);
         return case_with(line, end, question, image);
     }

@@ -6,7 +6,7 @@ ghost use Rattle.std.specs.Prelude.{◌≡◌};
 
 // What a case asks: of an image its hyperperiod or refusal, points, a listing or ages; or directly the points of two
 // periods.
-#[derive(Drop)]
+#[derive(Clone, Copy)]
 pub enum Question {
     Image,
     Points,
