@@ -11,7 +11,7 @@ use bits::Found;
 use table::{Answer, Refusal};
 
 // What taking a field gives: its answer and, beside it, the value; of a refused one the value is 0.
-#[derive(Drop)]
+#[derive(Clone, Copy)]
 pub struct Got {
     pub answer: Answer,
     pub value: u32,
