@@ -1,22 +1,13 @@
 -- `chain_steps::read_number` meets its contract. Assumes nothing.
 use Prim.Native.Nat.{◌+◌}
 use mathlib.Core.Path.{subst}
-use borrow.Author.Rules.{rules}
 use Rattle.taking.specs.Reading.{field}
 use Rattle.fields.specs.GotField.{GotField}
 use Rattle.fields.proofs.Steps.{range_is_below}
-use Rattle.chain_steps.proofs.read_number.Statement.{statement}
-use Rattle.chain_steps.proofs.read_number.Tie as tie
+use Rattle.chain_steps.proofs.read_number.Goals as goal
 
-returns : tie.Need-returns
+pub returns : goal.returns
 returns c =
-    let args = c.before.before.args in
+    let args = c.args in
     subst (λ test. GotField (field 5 8 test args.image.now args.at) (args.at + 5) c.ranged.result)
     (range_is_below _) c.ranged.ensures
-
-pub read-number-spec : {M : Type 1} → statement M
-read-number-spec =
-    tie.close
-    (tie.spec
-    (λ c κs. search rules)  -- ranged-requires
-    returns)
