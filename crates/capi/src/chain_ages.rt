@@ -8,8 +8,7 @@ use questions::AgesAnswer;
 
 // How many basic paths a chain of the image's table has in a round, their longest length, their worst and best age, and
 // the jitter.
-#[unsafe(no_mangle)]
-pub extern "C" fn liskobran_ages_slice(image: &[u8], chain: u64) -> LiskobranAges
+pub fn liskobran_ages_slice(image: &[u8], chain: u64) -> LiskobranAges
     ensures { result ≡ ages_said (ages image.now chain) }
 {
     let answer = questions::ages(image, chain);

@@ -7,8 +7,7 @@ use c_answers::{LiskobranListing, of_core};
 use questions::ListingAnswer;
 
 // The copy listing of core `core` of the image's table, in the first bytes of the lent buffer.
-#[unsafe(no_mangle)]
-pub extern "C" fn liskobran_listing_slice(
+pub fn liskobran_listing_slice(
     image: &[u8],
     core: u64,
     buffer: &mut [u8],

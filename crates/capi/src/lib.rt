@@ -1,7 +1,6 @@
-// The C interface: each question about an image as one function of C's, its answer a struct of numbers. The number is 0
+// What the C interface says: each question about an image as one function, its answer a struct of numbers. The number is 0
 // where the question is answered, and else that of document 01, Numbers that say no. What each answer says:
-// crates/c_answers, specs/Said.antt. No function requires anything. A slice has an address that is not null;
-// include/liskobran.h declares the functions for C, and others over them that take an empty image by any address.
+// crates/c_answers, specs/Said.antt. No function requires anything. crates/capi_c exports them to C under the same names.
 #![tactic(auto)]
 
 pub mod chain_ages;

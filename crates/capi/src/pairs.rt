@@ -7,8 +7,7 @@ use c_answers::{LiskobranPoints, of_pair};
 use questions::PointsAnswer;
 
 // The publishing point P(n) and the reading point Q(n) of a writer and a reader, two tasks of the image's table.
-#[unsafe(no_mangle)]
-pub extern "C" fn liskobran_points_slice(
+pub fn liskobran_points_slice(
     image: &[u8],
     writer: u64,
     reader: u64,

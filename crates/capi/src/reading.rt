@@ -7,8 +7,7 @@ use c_answers::{LiskobranAnswer, of_image};
 use table::Answer;
 
 // Is the image accepted, or with which number and at which place is it refused?
-#[unsafe(no_mangle)]
-pub extern "C" fn liskobran_read_slice(image: &[u8]) -> LiskobranAnswer
+pub fn liskobran_read_slice(image: &[u8]) -> LiskobranAnswer
     ensures { result ≡ read_said (answer_of image.now) }
 {
     let read = images::read_table(image);
