@@ -9,7 +9,7 @@ ghost use Rattle.packing.specs.Inked.{Inked, Finished, Countable};
 use stored_words::{store_four, store_some};
 
 // Where bits are put: `at` times four bytes are written, and the last `filled` bits of `word` wait.
-#[derive(Drop)]
+#[derive(Clone, Copy)]
 pub struct Pen {
     pub at: usize,
     pub filled: u32,
