@@ -1,7 +1,7 @@
 -- A body that was read into arrays that held nothing is a table but for its chains; and the chains after it, into arrays
 -- that held nothing. No contract cites this file. Assumes nothing.
 use Prim.Native.Nat.{ℕ, ◌+◌, ◌*◌, ◌≤◌, min}
-use mathlib.Core.Path.{◌≡◌, refl, ap, ◌∙◌}
+use mathlib.Core.Path.{◌≡◌}
 use mathlib.Core.List.{List, [], ◌∷◌, map}
 use native.Mathlib.Omega.{arith}
 use lib.ListN.{length, replicate, length-map}

@@ -2,14 +2,13 @@
 -- refusal on the way, all. No contract cites this file. Assumes nothing.
 use Prim.Native.Nat.{ℕ, ◌+◌, ◌*◌, ◌<◌}
 use mathlib.Core.Path.{◌≡◌, refl, sym, ap, ap₂, ◌∙◌}
-use mathlib.Core.List.{List, [], ◌∷◌, ◌++◌, map}
+use mathlib.Core.List.{List, [], ◌∷◌, ◌++◌}
 use native.Mathlib.Nat.{add-zero, add_assoc, mul-zero, mul-one, mul-add}
 use native.Mathlib.Omega.{arith}
 use lib.ListN.{length, set, length-append}
-use Rattle.lists.specs.Lists.{over}
 use Rattle.lists.proofs.Over.{over_none, held_more}
 use Rattle.outcomes.specs.Outcome.{gives, refuses}
-use Rattle.taking.specs.Reading.{Taker, Taken, in_row}
+use Rattle.taking.specs.Reading.{Taker, in_row}
 use Rattle.taking.proofs.Rows.{row_more, row_refused}
 use Rattle.table.specs.Refusals.{number_of}
 use Rattle.table.specs.declared.Answer.{Answer}
