@@ -1,7 +1,7 @@
 -- What `gather` leaves: the counters of a core at tick 0, at the start of what was lent. Assumes nothing.
 use Prim.Native.Nat.{ℕ, ◌*◌, ◌<◌, ◌≤◌, min}
 use mathlib.Core.Path.{◌≡◌, refl, sym, ap, ap₂, ◌∙◌}
-use mathlib.Core.Bool.{Bool, true, false}
+use mathlib.Core.Bool.{Bool, false}
 use mathlib.Core.List.{List, [], ◌∷◌, map}
 use native.Mathlib.Omega.{arith}
 use lib.Dec.{eqb}
@@ -13,7 +13,6 @@ use Rattle.lists.proofs.Over.{over_appended}
 use Rattle.table.specs.Table.{marks, joins}
 use Rattle.table.specs.Image.{Whole}
 use Rattle.table.specs.Rules.{MeetsRules}
-use Rattle.table.specs.declared.Table.{Table}
 use Rattle.gathering.specs.Pairs.{code_of, own_task, pair_counted, tasks_in, pairs_with, pairs_below}
 use Rattle.gathering.specs.Counters.{counter_of, counter_from}
 use Rattle.gathering.specs.Stored.{Stored}

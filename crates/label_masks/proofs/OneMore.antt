@@ -1,21 +1,20 @@
 -- One label more. No contract cites this file. Assumes nothing.
 use Prim.Native.Nat.{ℕ, suc, ◌+◌, ◌-◌, ◌/◌, ◌^◌, ◌<◌, min}
-use mathlib.Core.Path.{◌≡◌, sym, ap, ap₂, ◌∙◌}
+use mathlib.Core.Path.{◌≡◌, sym, ap, ◌∙◌}
 use mathlib.Core.Logic.{by_cases}
-use mathlib.Core.Bool.{true, false, ◌&&◌, ◌||◌}
+use mathlib.Core.Bool.{false, ◌&&◌, ◌||◌}
 use mathlib.Core.List.{List}
 use native.Mathlib.Decide.{ℕ_discrete}
 use native.Mathlib.Nat.{mod-lt}
 use native.Mathlib.Omega.{arith}
-use borrow.Author.Tests.{eq-eqb, ne_eqb, lt-ltb}
+use borrow.Author.Tests.{eq-eqb, ne_eqb}
 use lib.Bits.{bit_or, or_lt}
-use lib.Dec.{eqb, ltb, lit<}
+use lib.Dec.{eqb, lit<}
 use lib.ListN.{length, get_or, set, replicate, get_or-replicate}
 use lib.Pow.{pow-lt}
 use lib.Seq.{get_or-set_same, get_or-set_other}
 use Rattle.masks.specs.Masks.{holds}
 use Rattle.masks.proofs.Bitwise.{zero_holds, shifted_alone, one_more_holds}
-use Rattle.table.specs.Table.{marks}
 use Rattle.instants.specs.Due.{writer_due}
 use Rattle.label_masks.specs.LabelMasks.{WrittenLabels}
 use Rattle.label_masks.proofs.Below.{below_with, below_without, none_below, same_labels}

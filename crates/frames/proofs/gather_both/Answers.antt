@@ -1,0 +1,7 @@
+-- `frames::gather_both` meets its contract. Assumes nothing.
+use borrow.Author.Rules.{rules}
+use Rattle.frames.proofs.gather_both.Goals as goal
+
+pub returns : goal.returns
+returns c =
+    record { published = c.gather-first.ensures; read = c.gather-second.ensures }
