@@ -33,7 +33,7 @@ pub enum Answer {
 
 // A table: the counts of the head; of each task its core and period; of each label its writer and its readers; of each
 // chain its length. Entries past a count are 0. The chains' task numbers stand beside it, as sixteen rows of eight.
-#[derive(Drop)]
+#[derive(Clone, Copy)]
 pub struct Table {
     pub cores: usize,
     pub tasks: usize,
