@@ -1,5 +1,5 @@
 /*
- * Liskobran from C99 and C++: questions about a table image, answered by libcapi.a (`rt staticlib capi`).
+ * Liskobran from C99 and C++: questions about a table image, answered by libcapi.a (`bash .ci/archive`).
  *
  * Every function may be asked about any bytes; none of them keeps a pointer, writes to the image, allocates or fails
  * in another way than by the numbers below. An image is given by the address of its first byte and its length in bytes.

@@ -1,5 +1,5 @@
 //! Says where the archive of the proved code is: in the folder that the variable LISKOBRAN_ARCHIVE_DIR
-//! names, else where `rt staticlib capi` writes it in this repository.
+//! names, else where `.ci/archive` writes it in this repository.
 
 #![forbid(unsafe_code)]
 
@@ -14,7 +14,7 @@ fn main() {
     let archive = folder.join("libcapi.a");
     println!("cargo:rerun-if-env-changed=LISKOBRAN_ARCHIVE_DIR");
     println!("cargo:rerun-if-changed={}", archive.display());
-    assert!(archive.exists(), "no {}: first run `rt staticlib capi`", archive.display());
+    assert!(archive.exists(), "no {}: first run `.ci/archive`", archive.display());
     println!("cargo:rustc-link-search=native={}", folder.display());
     println!("cargo:rustc-link-lib=static=capi");
 }

@@ -7,11 +7,7 @@ use c_answers::{LiskobranListing, of_core};
 use questions::ListingAnswer;
 
 // The copy listing of core `core` of the image's table, in the first bytes of the lent buffer.
-pub fn liskobran_listing_slice(
-    image: &[u8],
-    core: u64,
-    buffer: &mut [u8],
-) -> LiskobranListing
+pub fn liskobran_listing_slice(image: &[u8], core: u64, buffer: &mut [u8]) -> LiskobranListing
     ensures said { result
         ≡ listing_said (bytes_listed (listing image.now core (length buffer.old))) }
     ensures lent { buffer.new

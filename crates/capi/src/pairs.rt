@@ -7,12 +7,7 @@ use c_answers::{LiskobranPoints, of_pair};
 use questions::PointsAnswer;
 
 // The publishing point P(n) and the reading point Q(n) of a writer and a reader, two tasks of the image's table.
-pub fn liskobran_points_slice(
-    image: &[u8],
-    writer: u64,
-    reader: u64,
-    n: u64,
-) -> LiskobranPoints
+pub fn liskobran_points_slice(image: &[u8], writer: u64, reader: u64, n: u64) -> LiskobranPoints
     ensures { result ≡ points_said (points image.now writer reader n) }
 {
     let answer = questions::points(image, writer, reader, n);
