@@ -1,5 +1,4 @@
 -- `frames::gather_both` meets its contract. Assumes nothing.
-use borrow.Author.Rules.{rules}
 use Rattle.frames.proofs.gather_both.Goals as goal
 
 pub returns : goal.returns

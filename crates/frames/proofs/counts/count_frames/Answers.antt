@@ -1,15 +1,14 @@
 -- `frames::counts::count_frames` meets its contract. The loop's invariant: no more frames than ticks were passed and,
 -- of a right table with these arrays, so many frames and copies were passed, and the counters are ready. Assumes nothing.
-use Prim.Native.Nat.{ℕ, ◌+◌, ◌-◌, ◌*◌, ◌≤◌}
+use Prim.Native.Nat.{ℕ, ◌+◌, ◌*◌, ◌≤◌}
 use mathlib.Core.Path.{◌≡◌, refl, ap, ◌∙◌}
-use mathlib.Core.Logic.{⊎_elim}
 use native.Mathlib.Omega.{arith}
 use lib.ListN.{length}
 use Rattle.table.specs.declared.Table.{Table}
 use Rattle.copies.specs.Copies.{copies_at}
 use Rattle.frames.specs.Counts.{RightRound}
 use Rattle.frames.specs.Ready.{GoesOver, Ready}
-use Rattle.frames.proofs.Counted.{CountedTo, counted_none, counted_all, counted_frame, counted_same}
+use Rattle.frames.proofs.Counted.{counted_none, counted_all, counted_frame, counted_same}
 use Rattle.frames.proofs.ReadyTurn.{ReadyTurn, ready_turn}
 use Rattle.frames.proofs.counts.count_frames.Goals as goal
 use Rattle.frames.proofs.counts.count_frames.Goals.{After-instant_at-due, Joined-count-gt0, then-count-gt0, else-count-gt0}
@@ -50,8 +49,8 @@ few c =
     let inv = c.loop-t.invariant in
     let fits = c.instant_at-due.ensures.few.0 in
     elim c.if-count-gt0.branch [
-      then-count-gt0 w ↦ (omega (arith, w.frames-is, inv.2), omega (arith, w.copies-is, inv.3, fits))
-    | else-count-gt0 w ↦ (omega (arith, w.frames-is, inv.2), omega (arith, w.copies-is, inv.3))
+      | then-count-gt0 w ↦ (omega (arith, w.frames-is, inv.2), omega (arith, w.copies-is, inv.3, fits))
+      | else-count-gt0 w ↦ (omega (arith, w.frames-is, inv.2), omega (arith, w.copies-is, inv.3))
     ]
 
 pub loop-t-preserved : goal.loop-t-preserved
@@ -70,10 +69,10 @@ loop-t-preserved c =
           rw (inst.instant_at-due.ensures.due, gone.0, gone.1) (
             turn.ready,
             elim c.if-count-gt0.branch [
-              then-count-gt0 w ↦
-                rw (w.frames-is, w.copies-is) (counted_frame table core before turn.turn is w.if-count-gt0.true)
-            | else-count-gt0 w ↦
-                rw (w.frames-is, w.copies-is) (counted_same table core before turn.turn is (omega (arith, w.if-count-gt0.false)))
+              | then-count-gt0 w ↦
+                  rw (w.frames-is, w.copies-is) (counted_frame table core before turn.turn is w.if-count-gt0.true)
+              | else-count-gt0 w ↦
+                  rw (w.frames-is, w.copies-is) (counted_same table core before turn.turn is (omega (arith, w.if-count-gt0.false)))
             ],
           ),
     )

@@ -1,16 +1,12 @@
 -- `frames::counts::count_frames` meets its contract. The loop's invariant: no more frames than ticks were passed and,
 -- of a right table with these arrays, so many frames and copies were passed, and the counters are ready. Assumes nothing.
-use Prim.Native.Nat.{ℕ, ◌+◌, ◌-◌, ◌*◌, ◌≤◌}
-use mathlib.Core.Path.{◌≡◌, refl, ap, ◌∙◌}
-use mathlib.Core.Logic.{⊎_elim}
-use native.Mathlib.Omega.{arith}
+use Prim.Native.Nat.{ℕ, ◌-◌, ◌*◌, ◌≤◌}
+use mathlib.Core.Path.{◌≡◌}
 use lib.ListN.{length}
 use Rattle.table.specs.declared.Table.{Table}
-use Rattle.copies.specs.Copies.{copies_at}
 use Rattle.frames.specs.Counts.{RightRound}
 use Rattle.frames.specs.Ready.{GoesOver, Ready}
-use Rattle.frames.proofs.Counted.{CountedTo, counted_none, counted_all, counted_frame, counted_same}
-use Rattle.frames.proofs.ReadyTurn.{ReadyTurn, ready_turn}
+use Rattle.frames.proofs.Counted.{CountedTo}
 use Rattle.frames.proofs.counts.count_frames.Given as goal
 
 abbrev pub invariant-loop-t : goal.invariant-loop-t

@@ -1,6 +1,5 @@
 -- `frames::instant::instant_at` meets its contract. Assumes nothing.
 use native.Mathlib.Omega.{arith}
-use borrow.Author.Rules.{rules}
 use Rattle.frames.proofs.instant.instant_at.Goals as goal
 
 pub returns : goal.returns
