@@ -3,15 +3,18 @@
 // system takes it.
 #![tactic(auto)]
 
-use libc::{STDIN_FILENO, STDOUT_FILENO};
+use filling::fill_from;
+use std::io;
+use std::io::Write;
 
 // An image of any length is answered by its first 1,024 bytes. No field of a table lies past byte 480; so of an image
 // that is longer than 481 bytes any more than 481 first bytes are answered as the whole is, at the same bit
-// (`first-bytes-decide` in the proofs of `table`). Where a read fails, the image is what was read before.
-fn main() {
+// (`first_bytes_decide` in the proofs of `table`). Where a read fails, nothing is printed and the program ends with that
+// error.
+fn main(rt: HostRuntime) -> io::Result<()> {
     let mut image = [0u8; 1024];
     let mut text = whole_texts::room();
-    let count = io::read_full(STDIN_FILENO, &mut image);
+    let count = fill_from(&mut rt.reader(), &mut image)?;
     let size = whole_texts::put_text(&mut text, &image[0..count]);
-    io::write_all(STDOUT_FILENO, &text[0..size]);
+    io::writer(&rt).write_all(&text[0..size])
 }

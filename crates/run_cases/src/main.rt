@@ -12,49 +12,59 @@
 use answers::{ask_ages, ask_directly, ask_image, ask_points};
 use case_lines::{case_at, passed_over};
 use case_words::Question;
-use libc::STDIN_FILENO;
+use filling::fill_from;
 use lines::numbers::Numbers;
+use lines::places::first_from;
 use listing_answers::ask_listing;
+use std::io;
+use std::io::Write;
 use telling::{complain, end_line, tell_name};
 
 // The answer to a question.
-fn answer(question: Question, numbers: Numbers, image: &[u8]) {
+fn answer<W: Write>(
+    out: &mut W,
+    question: Question,
+    numbers: Numbers,
+    image: &[u8],
+) -> io::Result<()> {
     match question {
-        Question::Image => ask_image(image),
-        Question::Points => ask_points(image, numbers.first, numbers.second, numbers.third),
-        Question::Listing => ask_listing(image, numbers.first, numbers.second),
-        Question::Ages => ask_ages(image, numbers.first),
-        Question::Directly => ask_directly(numbers.first, numbers.second, numbers.third),
-        Question::Unknown => complain(),
+        Question::Image => ask_image(out, image),
+        Question::Points => ask_points(out, image, numbers.first, numbers.second, numbers.third),
+        Question::Listing => ask_listing(out, image, numbers.first, numbers.second),
+        Question::Ages => ask_ages(out, image, numbers.first),
+        Question::Directly => ask_directly(out, numbers.first, numbers.second, numbers.third),
+        Question::Unknown => complain(out),
     }
 }
 
 // A case is answered on a line of its own; a remark is passed over.
-fn run_line(line: &[u8]) {
+fn run_line<W: Write>(out: &mut W, line: &[u8]) -> io::Result<()> {
     if passed_over(line) {
-        return;
+        return Ok(());
     }
-    let start = tell_name(line);
+    let start = tell_name(out, line)?;
     let mut image = [0u8; 512];
     let case = case_at(line, start, &mut image);
     let question = case.question;
     let numbers = case.numbers;
     let count = case.count;
-    answer(question, numbers, &image[0..count]);
-    end_line();
+    answer(out, question, numbers, &image[0..count])?;
+    end_line(out)
 }
 
-fn run_lines(text: &[u8]) {
+// Line after line.
+fn run_lines<W: Write>(out: &mut W, text: &[u8]) -> io::Result<()> {
     let mut at: usize = 0;
     while at < text.len() {
-        let end = bytes::scan::find(text, at, text.len(), b'\n');
-        run_line(&text[at..end]);
+        let end = first_from(text, at, b'\n');
+        run_line(out, &text[at..end])?;
         at = end + 1;
     }
+    Ok(())
 }
 
-fn main() {
+fn main(rt: HostRuntime) -> io::Result<()> {
     let mut text = [0u8; 16384];
-    let count = io::read_full(STDIN_FILENO, &mut text);
-    run_lines(&text[0..count]);
+    let count = fill_from(&mut rt.reader(), &mut text)?;
+    run_lines(&mut io::writer(&rt), &text[0..count])
 }
