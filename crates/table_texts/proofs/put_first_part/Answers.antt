@@ -1,0 +1,7 @@
+-- `table_texts::put_first_part` meets its contract. Assumes nothing.
+use Rattle.table_texts.proofs.EachPut.{first_part}
+use Rattle.table_texts.proofs.put_first_part.Goals as goal
+
+pub returns : goal.returns
+returns c right =
+    first_part _ _ _ right.is c.put_hyperperiod-next.ensures (c.put_cores.ensures right)
