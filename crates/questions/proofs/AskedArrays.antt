@@ -11,7 +11,6 @@ use Rattle.table.specs.Shown.{answer_of, nothing, accepted_or, shown_of}
 use Rattle.table.specs.declared.Answer.TheVariants.{Accepted}
 use Rattle.image_arrays.specs.ArraysShown.{round_in, ArraysShown}
 use Rattle.images.specs.TableShown.{TableShown}
-use Rattle.images.specs.declared.TableRead.{TableRead}
 use Rattle.image_arrays.specs.declared.ArraysRead.{ArraysRead}
 use Rattle.counted_listings.specs.Listed.{Lists}
 use Rattle.questions.proofs.AcceptedRight.{accepted_right}
