@@ -2,4 +2,4 @@
 mod AgesSmall
 mod ChainsSmall
 pub mod Lengths
-mod Outcomes
+pub mod Outcomes

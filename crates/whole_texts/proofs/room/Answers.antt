@@ -3,11 +3,7 @@
 use Prim.Native.Nat.{ℕ}
 use mathlib.Core.Path.{sym}
 use lib.ListN.{length-replicate}
-use Rattle.whole_texts.proofs.room.Statement.{statement}
-use Rattle.whole_texts.proofs.room.Tie as tie
+use Rattle.whole_texts.proofs.room.Goals as goal
 
-returns : tie.Need-returns
+pub returns : goal.returns
 returns c = sym (length-replicate {0} {A = ℕ} 2621440 0)
-
-pub room-spec : {M : Type 1} → statement M
-room-spec = tie.close (tie.spec returns)
