@@ -1,4 +1,5 @@
-//! Other ways than a pipe that is filled at once: each gets the text of the bytes that were read.
+//! Other ways than a pipe that is filled at once: each gets the text of the bytes that were read, and
+//! where a read or a write fails that error.
 
 use std::fs::{File, OpenOptions};
 use std::io::{ErrorKind, Read, Result, Write};
@@ -25,6 +26,15 @@ pub struct Way {
 /// The program next to the text of the bytes given.
 fn way(what: &str, did: Did, bytes: &[u8]) -> Way {
     Way { what: what.to_string(), did, expected: Did::prints(&print(bytes)) }
+}
+
+/// The program where a read or a write fails: it prints nothing, says why in a line, and ends with
+/// status 1.
+fn failed(what: &str, did: Did) -> Way {
+    let told = did.complained.starts_with(b"Error: ") && did.complained.ends_with(b"\n");
+    let complained = if told { did.complained.clone() } else { b"Error: ..\n".to_vec() };
+    let expected = Did { complained, status: Some(1), ..Did::prints("") };
+    Way { what: what.to_string(), did, expected }
 }
 
 /// The first `single` bytes one by one, each some time after the one before it, and then the rest.
@@ -61,7 +71,7 @@ pub fn ways_in(program: &Program) -> Result<Vec<Way>> {
     let longer = [largest.clone(), vec![0; 5_000_000]].concat();
     let zeros = vec![0; 5_000_000];
     let mut ways = vec![
-        way("a directory", program.with(File::open("/")?.into())?, b""),
+        failed("a directory", program.with(File::open("/")?.into())?),
         way("/dev/zero", program.with(File::open("/dev/zero")?.into())?, &zeros),
         way("megabytes", program.of_bytes(&longer)?, &longer),
         way("megabytes slowly", program.fed(slowly(&longer, 600))?, &longer),
@@ -69,12 +79,11 @@ pub fn ways_in(program: &Program) -> Result<Vec<Way>> {
         way("480 bytes one by one", program.fed(slowly(&largest, 480))?, &largest),
     ];
     let unreadable = OpenOptions::new().write(true).open("/dev/null")?;
-    ways.push(way("a read that fails", program.with(unreadable.into())?, b""));
+    ways.push(failed("a read that fails", program.with(unreadable.into())?));
     for length in [0, 1, 15, 16] {
-        let first = &one[..length];
-        ways.push(way("a read that fails later", failing(program, first)?, first));
+        ways.push(failed("a read that fails later", failing(program, &one[..length])?));
     }
-    ways.push(way("a later read that fails", failing(program, &largest)?, &largest));
+    ways.push(failed("a later read that fails", failing(program, &largest)?));
     Ok(ways)
 }
 
@@ -99,22 +108,15 @@ fn no_reader(program: &Program, bytes: &[u8]) -> Result<Did> {
     child.wait_with_output().map(Did::of)
 }
 
-/// The signal that a pipe is closed.
-const PIPE: i32 = 13;
-
-/// Where the pipe is closed the program ends quietly, by the signal or, where that is ignored, by
-/// itself.
+/// Where the pipe is closed the program ends by itself, whether the signal of that is ignored or not.
 pub fn ways_out(program: &Program) -> Result<Vec<Way>> {
     let longest = longest_text().image();
     let mut ways = vec![way("a slow reader", slow_reader(program, &longest)?, &longest)];
     let words = ["sh", "-c", "trap '' PIPE; exec \"$@\"", "sh"].map(str::to_string);
     let ignoring = Program([&words[..], &program.0].concat());
     for bytes in [&b""[..], &longest] {
-        let expected = Did { status: None, signal: Some(PIPE), ..Did::prints("") };
-        let did = no_reader(program, bytes)?;
-        ways.push(Way { what: "a closed pipe".to_string(), did, expected });
-        let (did, expected) = (no_reader(&ignoring, bytes)?, Did::prints(""));
-        ways.push(Way { what: "a closed pipe, ignored".to_string(), did, expected });
+        ways.push(failed("a closed pipe", no_reader(program, bytes)?));
+        ways.push(failed("a closed pipe, ignored", no_reader(&ignoring, bytes)?));
     }
     Ok(ways)
 }
