@@ -87,8 +87,8 @@ pub same_refusal : (image : List ℕ) (number place : ℕ) → answer_of image �
     × ((chain : ℕ) → ages image chain ≡ refuses number place)
 same_refusal = same_refusal_whichever_question
 
--- The C interface says the same (crates/capi, src): number 0 and the values of an answer, or the refusal's number and
--- place and 0 for each value.
+-- The C interface says the same (crates/capi, src; crates/capi_c exports these functions with the same promises): number
+-- 0 and the values of an answer, or the refusal's number and place and 0 for each value.
 --     r ≡ read_said (answer_of image),  r ≡ points_said (points image writer reader n)
 --     r ≡ ages_said (ages image chain)
 --     r ≡ listing_said (bytes_listed (listing image core (length buffer))), and the buffer as under demand 2
