@@ -25,6 +25,13 @@ at_front a k n xs ys room inside =
     (rw long at (take-append-add (take a xs) (ys ++ post_of a k xs) n))
     ∙ ap (λ l. take a xs ++ l) (take-append-le n ys (post_of a k xs) inside)
 
+-- so what a part is given is consumed after what was consumed before
+read_more : (first middle last : Option (List ℕ)) (a k n : ℕ) (xs ys : List ℕ) → a ≤ length xs → n ≤ length ys
+    → Consumes first middle (take a xs) → Consumes middle last (take n ys)
+    → Consumes first last (take (a + n) (put_mid a k xs ys))
+read_more first middle last a k n xs ys room inside one two =
+    rw (at_front a k n xs ys room inside) (then_more first middle last (take a xs) (take n ys) one two)
+
 pub loop-done-preserved : goal.loop-done-preserved
 loop-done-preserved g c =
     let a = c.loop-done.done in
@@ -35,6 +42,6 @@ loop-done-preserved g c =
     record {
       within = omega (arith, read.bound.0, length-append (take a xs) (ys ++ post_of a k xs), length-append ys (post_of a k xs), length-take a xs);
       read =
-          rw (at_front a k c.in_ok-count.count xs ys c.loop-done.invariant.within read.bound.0)
-          (then_more _ _ _ _ _ c.loop-done.invariant.read read.bytes.0);
+          read_more _ _ _ a k c.in_ok-count.count xs ys c.loop-done.invariant.within read.bound.0
+          c.loop-done.invariant.read read.bytes.0;
     }
