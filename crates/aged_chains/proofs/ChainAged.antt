@@ -4,8 +4,8 @@ use Prim.Native.Nat.{ℕ, ◌-◌, ◌<◌, ◌≤◌, min}
 use mathlib.Core.Path.{◌≡◌, sym, ap, ◌∙◌}
 use mathlib.Core.List.{List}
 use native.Mathlib.Omega.{arith}
-use lib.ListN.{length, take, length-take}
-use lib.Seq.{get_or-take}
+use lib.ListN.{length}
+use lib.Seq.{take-length}
 use borrow.Author.Tests.{lt-ltb}
 use Rattle.times.specs.Hyperperiod.{lcm_of}
 use Rattle.times.proofs.Hyperperiod.{period_divides_hyperperiod}
@@ -19,30 +19,30 @@ use Rattle.paths.specs.Walks.{paths_below, RightChain, SumsOfRound}
 use Rattle.path_sums.specs.declared.Walk.{Walk}
 use Rattle.aged_chains.specs.Parts.{aged_by, RightAsked}
 
-module _ (periods : List ℕ) {count : ℕ} (asked : RightAsked periods count) (known : 0 < count) {round : ℕ}
-    (held : round ≡ min (lcm_of (take count periods)) 1000001)
+module _ (periods : List ℕ) (asked : RightAsked periods) (known : 0 < length periods) {round : ℕ}
+    (held : round ≡ min (lcm_of periods) 1000001)
   where
     -- the chain's own round, which is within the limit
-    is_round : round ≡ lcm_of (take count periods)
+    is_round : round ≡ lcm_of periods
     is_round = omega (arith, asked.short)
 
-    pub right_chain : RightChain periods count round
+    pub right_chain : RightChain periods (length periods) round
     right_chain =
-        let all : 0 < length (take count periods) =
-        omega (arith, length-take count periods, asked.long, asked.right.few) in
         rw is_round (record {
           right = asked.right;
           some = asked.some known;
           short = asked.short;
-          whole = rw (get_or-take count periods 0 0 known) at (period_divides_hyperperiod (take count periods) 0 all);
+          whole = period_divides_hyperperiod periods 0 known;
         })
 
     -- what was counted is the answer
-    module _ {walk : Walk} (sums : SumsOfRound periods count round walk) where
-      of_round : round ≡ round_of (chain_by periods count)
-      of_round = is_round ∙ sym (chain_round periods count known (omega (arith, asked.long, asked.right.few)))
+    module _ {walk : Walk} (sums : SumsOfRound periods (length periods) round walk) where
+      of_round : round ≡ round_of (chain_by periods (length periods))
+      of_round =
+          is_round ∙ ap lcm_of (sym (take-length periods))
+          ∙ sym (chain_round periods (length periods) known (omega arith))
 
-      counted : ages_of (chain_by periods count) ≡ record {
+      counted : ages_of (chain_by periods (length periods)) ≡ record {
         paths = walk.paths;
         longest = walk.longest;
         worst = walk.worst;
@@ -58,7 +58,7 @@ module _ (periods : List ℕ) {count : ℕ} (asked : RightAsked periods count) (
       pub best_first : walk.best ≤ walk.worst
       best_first =
           let timed = chain_timed periods asked.right (asked.some known) known in
-          rw counted at (best_at_most_worst (chain_by periods count) timed)
+          rw counted at (best_at_most_worst (chain_by periods (length periods)) timed)
 
       pub chain_aged_lem : gives (record {
         paths = walk.paths;
@@ -66,5 +66,5 @@ module _ (periods : List ℕ) {count : ℕ} (asked : RightAsked periods count) (
         worst = walk.worst;
         best = walk.best;
         jitter = walk.worst - walk.best;
-      }) ≡ aged_by periods count
+      }) ≡ aged_by periods
       chain_aged_lem = rw (lt-ltb _ _ known) (ap gives (sym counted))

@@ -14,14 +14,10 @@ use Rattle.table.specs.Table.{Rows}
 use Rattle.table.specs.Image.{Head, Task, Label, head_bits, task_bits, label_bits, head_fields, task_fields, label_fields}
 use Rattle.table.specs.Image.{table_of, rows_of}
 use Rattle.table.specs.declared.Table.{Table}
-use Rattle.image_parts.specs.Parts.{head_of}
+use Rattle.table.specs.declared.Refused.{Refused}
 use Rattle.body.specs.Parts.{Body}
-use Rattle.image_parts.specs.declared.HeadRead.{HeadRead}
-use Rattle.chain_steps.specs.Linked.{InEachLabelled}
 use Rattle.chains.specs.Parts.{ChainsTaken}
-use Rattle.chains.specs.declared.ChainsRead.{ChainsRead}
-use Rattle.chain_steps.proofs.LabelSearch.{as_it_is}
-use Rattle.all_fields.specs.FieldsRead.{held_in}
+use Rattle.std.specs.Prelude.{Result}
 
 -- head, tasks and labels that were taken, and the table of them
 pub record TableBody (image : List ℕ) (table : Table) : Type 0 where
@@ -49,13 +45,29 @@ column_held : {A : Type 0} (size : ℕ) (f : A → ℕ) (values : List A) → le
     → over (map f values) (replicate size 0) ≡ padded size 0 (map f values)
 column_held size f values few = over_filler size 0 (map f values) (omega (arith, length-map values f))
 
+-- the table of these counts and arrays
+abbrev held_in : Head → (core period writer readers length : List ℕ) → Table
+held_in head core period writer readers length = record {
+  cores = head.cores;
+  tasks = head.tasks;
+  labels = head.labels;
+  chains = head.chains;
+  core = core;
+  period = period;
+  writer = writer;
+  readers = readers;
+  length = length;
+}
+
 module _ (image : List ℕ) where
-  pub table_body : (r : HeadRead) {core period writer readers : List ℕ}
-      → Body image (head_of r) (replicate 32 0 ∷ replicate 32 0 ∷ []) (core ∷ period ∷ [])
-      (replicate 64 0 ∷ replicate 64 0 ∷ []) (writer ∷ readers ∷ [])
-      → TableBody image (held_in r core period writer readers (replicate 16 0))
+  pub table_body : (head : Head) {core₀ period₀ writer₀ readers₀ core period writer readers length : List ℕ}
+      → core₀ ≡ replicate 32 0 → period₀ ≡ replicate 32 0 → writer₀ ≡ replicate 64 0 → readers₀ ≡ replicate 64 0
+      → length ≡ replicate 16 0
+      → Body image head (core₀ ∷ period₀ ∷ []) (core ∷ period ∷ []) (writer₀ ∷ readers₀ ∷ []) (writer ∷ readers ∷ [])
+      → TableBody image (held_in head core period writer readers length)
   unfolding table_of padded
-  table_body r {core} {period} {writer} {readers} body =
+  table_body head {core = core} {period = period} {writer = writer} {readers = readers} no_core no_period no_writer no_readers
+      no_length body =
       let tasks = body.tasks in
       let labels = body.labels in
       let of_tasks = row_long _ _ _ _ _ body.of_tasks in
@@ -73,28 +85,28 @@ module _ (image : List ℕ) where
       let of_readers : readers ≡ padded 64 0 (map (λ label. label.readers) labels) =
       cc (column_held 64 (λ label. label.readers) labels few_labels) in
       record {
-        head = head_of r;
+        head = head;
         tasks = tasks;
         labels = labels;
         of_head = body.of_head;
         of_tasks = body.of_tasks;
         of_labels = body.of_labels;
-        held = rw (of_core, of_period, of_writer, of_readers);
+        held = rw (of_core, of_period, of_writer, of_readers, no_length);
         few_tasks = body.few_tasks;
         few_labels = body.few_labels;
         few_chains = body.few_chains;
       }
 
-  -- what was promised of the chains in each table with these arrays holds in this one
-  pub chains_of_lem : (table : Table) (at : ℕ) (r : ChainsRead) {lengths₀ lengths : List ℕ} {rows₀ rows : Rows}
-      → table.labels ≤ 64 → table.chains ≤ 16
-      → InEachLabelled table.tasks (min table.labels 64) table.writer table.readers
-      (λ each. ChainsTaken image at each (min table.chains 16) r lengths₀ lengths rows₀ rows)
-      → ChainsTaken image at table table.chains r lengths₀ lengths rows₀ rows
-  chains_of_lem table at r few_labels few_chains promised =
-      let labels : min table.labels 64 ≡ table.labels = omega arith in
+  -- the chains after it, of which no more are looked at than the arrays hold
+  pub chains_of_lem : (table : Table) {at at' next : ℕ} {image' : List ℕ} (r : Result (Unit {0}) Refused)
+      {lengths : List ℕ} {rows₀ rows : Rows}
+      → table.chains ≤ 16 → image' ≡ image → at' ≡ at → rows₀ ≡ rows_of []
+      → ChainsTaken image' at' table (min table.chains 16) next r lengths rows₀ rows
+      → ChainsTaken image at table table.chains next r lengths (replicate 16 (replicate 8 0)) rows
+  unfolding rows_of padded
+  chains_of_lem table r few same place no_rows read =
       let chains : min table.chains 16 ≡ table.chains = omega arith in
-      rw chains at ((rw labels at promised) table (as_it_is table))
+      rw (chains, same, place, no_rows) at read
 
   -- the lengths and rows of chains that were all taken, over nothing
   pub lengths_of : (chains : List (List ℕ)) → length chains ≤ 16

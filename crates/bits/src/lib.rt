@@ -5,13 +5,6 @@ ghost use Rattle.std.specs.Prelude.{◌≡◌, ◌+◌, ◌-◌, ◌*◌, ◌≤
 ghost use Rattle.bits.specs.Bits.{field_at};
 ghost use Rattle.bits.specs.Found.{found_at, said_of_found};
 
-// What stands at a place: the field's value, or nothing, since the bytes end inside or before it.
-#[derive(Clone, Copy)]
-pub enum Found {
-    Value(u32),
-    Ends,
-}
-
 // 2 to the power k.
 fn power(k: usize) -> u64
     requires { k < 64 }
@@ -26,33 +19,25 @@ fn bytes_at(bytes: &[u8], from: usize, count: usize) -> u64
     ensures { result ≡ field_at bytes.now (8 * from) (8 * count) }
 {
     let mut number: u64 = 0;
-    let mut i: usize = 0;
-    while i < count {
-        number = number * 256 + bytes[from + i] as u64;
-        i += 1;
+    for byte in &bytes[from..from + count] {
+        number = number * 256 + u64::from(*byte);
     }
     number
 }
 
-// A field is at most 32 bits wide: a greater width is taken for 32.
-pub fn capped(width: usize) -> usize
-    ensures { result ≡ min width 32 }
-{
-    if width < 32 { width } else { 32 }
-}
-
-// The field of `width` bits from bit `at`.
-pub fn field_at(bytes: &[u8], at: usize, width: usize) -> Found
+// The field of `width` bits from bit `at`: its value, or nothing, since the bytes end inside or before it. A field is at
+// most 32 bits wide: a greater width is taken for 32.
+pub fn field_at(bytes: &[u8], at: usize, width: usize) -> Option<u32>
     ensures { said_of_found at result ≡ found_at bytes.now at (min width 32) }
 {
-    let wide = capped(width);
+    let wide = width.min(32);
     let from = at / 8;
     let skipped = at % 8;
     let count = (skipped + wide + 7) / 8;
     if bytes.len() < from + count {
-        return Found::Ends;
+        return None;
     }
     let below = 8 * count - skipped - wide;
     let number = bytes_at(bytes, from, count) >> below;
-    Found::Value((number % power(wide)) as u32)
+    Some((number % power(wide)) as u32)
 }

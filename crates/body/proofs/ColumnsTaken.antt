@@ -6,15 +6,14 @@ use mathlib.Core.List.{List, [], ◌∷◌, ◌++◌}
 use native.Mathlib.Nat.{add-zero, add_assoc, mul-zero, mul-one, mul-add}
 use native.Mathlib.Omega.{arith}
 use lib.ListN.{length, set, length-append}
+use Rattle.std.specs.Prelude.{Result, Ok, Err}
 use Rattle.lists.proofs.Over.{over_none, held_more}
 use Rattle.outcomes.specs.Outcome.{gives, refuses}
 use Rattle.taking.specs.Reading.{Taker, in_row}
 use Rattle.taking.proofs.Rows.{row_more, row_refused}
 use Rattle.table.specs.Refusals.{number_of}
-use Rattle.table.specs.declared.Answer.{Answer}
-use Rattle.table.specs.declared.Answer.TheVariants.{Accepted, Refused}
-use Rattle.table.specs.declared.Refusal.{Refusal}
-use Rattle.fields.proofs.Steps.{still_refused}
+use Rattle.table.specs.declared.Refused.{Refused}
+use Rattle.fields.specs.TakenTo.{taken_as}
 use Rattle.body.specs.Columns.{columns_over, RowRead}
 
 -- each array after one more was stored in it: the fields of one thing, at one index
@@ -43,6 +42,12 @@ stored_none [] (first ∷ held) each = absurd (omega arith)
 stored_none (column ∷ columns) [] each = absurd (omega arith)
 stored_none (column ∷ columns) (first ∷ held) each =
     ap₂ (λ array arrays. array ∷ arrays) (over_none first) (stored_none columns held (omega arith))
+
+-- one thing, where the reader stands
+pub at_place : {P A : Type 0} (one : P → Taker A) {p p' : P} {image image' : List ℕ} {at at' : ℕ}
+    → p ≡ p' → image ≡ image' → at ≡ at' → one p image at ≡ one p' image' at'
+at_place one {image' = image'} {at = at} same of_image of_place =
+    ap₂ (λ p image. one p image at) same of_image ∙ ap (one _ image') of_place
 
 module _ {A : Type 0} (step : ℕ) (one : Taker A) (columns : List (A → ℕ)) (image : List ℕ) (at : ℕ)
     (held : List (List ℕ)) where
@@ -80,18 +85,18 @@ module _ {A : Type 0} {step : ℕ} {one : Taker A} {columns : List (A → ℕ)} 
         }
 
     -- a refusal of the next one is the row's refusal
-    pub row_read_refused : {count : ℕ} {answer : Answer} {r : Refusal} {p : ℕ} → i < count → answer ≡ Refused r p
-        → one image (at + step * i) ≡ refuses (number_of r) p
-        → RowRead step one columns image at count answer held arrays
-    row_read_refused {count = count} {r = r} {p = p} more told refused = record {
+    pub row_read_refused : {count : ℕ} {r : Result (Unit {0}) Refused} (refused : Refused) → i < count → r ≡ Err refused
+        → one image (at + step * i) ≡ refuses (number_of refused.refusal) refused.place
+        → RowRead step one columns image at count r held arrays
+    row_read_refused {count} {r} refused more told off = record {
       values = passed.values;
-      said = still_refused _ r told
-          ∙ sym (row_refused (λ before. one) image at i count _ _ p more passed.row refused);
+      said = ap (taken_as (λ done. passed.values) (at + step * count)) told
+          ∙ sym (row_refused (λ before. one) image at i count _ _ _ more passed.row off);
       holds = passed.holds;
     }
 
     -- all were taken
-    pub row_read_whole : {count : ℕ} → i ≡ count → RowRead step one columns image at count Accepted held arrays
+    pub row_read_whole : {count : ℕ} → i ≡ count → RowRead step one columns image at count (Ok tt) held arrays
     row_read_whole all = record {
       values = passed.values;
       said = rw (← all) (sym passed.row);

@@ -1,16 +1,13 @@
 -- What the parts of a body answer, in document 01's numbers. No contract of a question cites this file. Assumes nothing.
-use Rattle.std.specs.Prelude.{ℕ, ◌+◌, ◌*◌, ◌≤◌, ◌≡◌, List, [], ◌∷◌}
+use Rattle.std.specs.Prelude.{ℕ, ◌+◌, ◌*◌, ◌≤◌, ◌≡◌, List, [], ◌∷◌, Result, Ok, Err}
 use Rattle.outcomes.specs.Outcome.{gives, refuses}
 use Rattle.taking.specs.Reading.{in_row}
 use Rattle.table.specs.Refusals.{number_of}
 use Rattle.table.specs.Image.{Head, Task, Label, head_bits, task_bits, label_bits, head_fields, task_fields, label_fields}
 use Rattle.table.specs.Image.{all_fields}
-use Rattle.table.specs.declared.Answer.{Answer}
-use Rattle.table.specs.declared.Answer.TheVariants.{Accepted, Refused}
-use Rattle.table.specs.declared.Refusal.{Refusal}
-use Rattle.image_parts.specs.Parts.{head_of}
+use Rattle.table.specs.declared.Refused.{Refused}
+use Rattle.table.specs.declared.Table.{Table}
 use Rattle.body.specs.Columns.{columns_over, RowRead}
-use Rattle.image_parts.specs.declared.HeadRead.{HeadRead}
 
 -- the columns of tasks, and of labels
 abbrev pub task_columns : List (Task → ℕ)
@@ -20,11 +17,44 @@ abbrev pub label_columns : List (Label → ℕ)
 label_columns = (λ label. label.writer) ∷ (λ label. label.readers) ∷ []
 
 -- the tasks of an image, and the labels
-abbrev pub TasksTaken : (image : List ℕ) (at cores count : ℕ) (answer : Answer) (held arrays : List (List ℕ)) → Type 0
+abbrev pub TasksTaken
+    : (image : List ℕ) (at cores count : ℕ) (r : Result (Unit {0}) Refused) (held arrays : List (List ℕ)) → Type 0
 TasksTaken image at cores count = RowRead task_bits (task_fields cores) task_columns image at count
 
-abbrev pub LabelsTaken : (image : List ℕ) (at tasks count : ℕ) (answer : Answer) (held arrays : List (List ℕ)) → Type 0
+abbrev pub LabelsTaken
+    : (image : List ℕ) (at tasks count : ℕ) (r : Result (Unit {0}) Refused) (held arrays : List (List ℕ)) → Type 0
 LabelsTaken image at tasks count = RowRead label_bits (label_fields tasks) label_columns image at count
+
+-- a table with other arrays of tasks, and with other arrays of labels
+abbrev pub with_tasks : Table → (core period : List ℕ) → Table
+with_tasks table core period = record {
+  cores = table.cores;
+  tasks = table.tasks;
+  labels = table.labels;
+  chains = table.chains;
+  core = core;
+  period = period;
+  writer = table.writer;
+  readers = table.readers;
+  length = table.length;
+}
+
+abbrev pub with_labels : Table → (writer readers : List ℕ) → Table
+with_labels table writer readers = record {
+  cores = table.cores;
+  tasks = table.tasks;
+  labels = table.labels;
+  chains = table.chains;
+  core = table.core;
+  period = table.period;
+  writer = writer;
+  readers = readers;
+  length = table.length;
+}
+
+-- the counts of a table
+abbrev pub head_in : Table → Head
+head_in table = record { cores = table.cores; tasks = table.tasks; labels = table.labels; chains = table.chains }
 
 -- head, tasks and labels that were taken; the arrays of tasks and those of labels hold them, over what they held
 pub record Body (image : List ℕ) (head : Head) (tasks_held tasks_hold labels_held labels_hold : List (List ℕ)) : Type 0
@@ -43,9 +73,10 @@ pub record Body (image : List ℕ) (head : Head) (tasks_held tasks_hold labels_h
     pub few_labels : head.labels ≤ 64
     pub few_chains : head.chains ≤ 16
 
--- the image up to its labels: head, tasks and labels, or the image's refusal
-pub record BodyRead (image : List ℕ) (r : HeadRead) (tasks_held tasks_hold labels_held labels_hold : List (List ℕ))
-    : Type 0 where
-  pub accepted : r.answer ≡ Accepted → Body image (head_of r) tasks_held tasks_hold labels_held labels_hold
-  pub refused : (refusal : Refusal) (place : ℕ) → r.answer ≡ Refused refusal place
-      → all_fields image 0 ≡ refuses (number_of refusal) place
+-- the image up to its labels: head, tasks and labels, in a table over what it held, or the image's refusal
+pub record BodyRead {A : Type 0} (image : List ℕ) (r : Result A Refused) (held holds : Table) : Type 0 where
+  pub accepted : (a : A) → r ≡ Ok a
+      → Body image (head_in holds) (held.core ∷ held.period ∷ []) (holds.core ∷ holds.period ∷ [])
+      (held.writer ∷ held.readers ∷ []) (holds.writer ∷ holds.readers ∷ [])
+  pub refused : (refused : Refused) → r ≡ Err refused
+      → all_fields image 0 ≡ refuses (number_of refused.refusal) refused.place

@@ -1,33 +1,26 @@
 // All labels of an image, one after the other (document 01, Table image).
-ghost use Rattle.std.specs.Prelude.{◌≤◌, [], ◌∷◌};
-ghost use Rattle.body.specs.Parts.{LabelsTaken};
+ghost use Rattle.std.specs.Prelude.{◌≡◌, ◌+◌, ◌*◌, ◌≤◌, [], ◌∷◌, IfOk};
+ghost use Rattle.table.specs.Image.{label_bits};
+ghost use Rattle.body.specs.Parts.{LabelsTaken, with_labels};
 
 use image_parts::labels::read_label;
-use table::{Answer, LABEL_BITS};
+use reader::FieldReader;
+use table::{Refused, Table};
 
-// All labels, from bit `at` on; the first entries of the arrays hold their writers and readers.
-pub(crate) fn read_labels(
-    image: &[u8],
-    at: usize,
-    tasks: u32,
-    labels: usize,
-    writer: &mut [u32; 64],
-    readers: &mut [u32; 64],
-) -> Answer
-    requires { (at ≤ 1024) × (tasks ≤ 32) × (labels ≤ 64) }
-    ensures { LabelsTaken image.now at tasks labels result
-        (writer.old ∷ readers.old ∷ []) (writer.new ∷ readers.new ∷ []) }
+// All labels of a table whose counts are known; the first entries of its arrays hold their writers and readers.
+pub(crate) fn read_labels(reader: &mut FieldReader<'_>, table: &mut Table) -> Result<(), Refused>
+    requires { (reader.old.at ≤ 1024) × (table.old.tasks ≤ 32) × (table.old.labels ≤ 64) }
+    ensures taken { LabelsTaken reader.old.image.now reader.old.at table.old.tasks table.old.labels result
+        (table.old.writer ∷ table.old.readers ∷ []) (table.new.writer ∷ table.new.readers ∷ []) }
+    ensures rest { table.new ≡ with_labels table.old table.new.writer table.new.readers }
+    ensures on { IfOk result (λ done. reader.new.at ≡ reader.old.at + label_bits * table.old.labels) }
+    ensures image { reader.new.image ≡ reader.old.image }
 {
-    let mut l: usize = 0;
-    while l < labels {
-        let label = read_label(image, at + LABEL_BITS * l, tasks);
-        let answer = label.answer;
-        let Answer::Accepted = answer else {
-            return answer;
-        };
-        writer[l] = label.writer;
-        readers[l] = label.readers;
-        l += 1;
+    // A count is a `usize`, as lengths are: the cast is proved to lose nothing, where `try_from` would be one more way to fail.
+    for l in 0..table.labels {
+        let label = read_label(reader, table.tasks as u32)?;
+        table.writer[l] = label.writer;
+        table.readers[l] = label.readers;
     }
-    Answer::Accepted
+    Ok(())
 }

@@ -11,23 +11,23 @@ use Rattle.c_answers.specs.declared.LiskobranListing.{LiskobranListing}
 use Rattle.c_answers.specs.declared.LiskobranPoints.{LiskobranPoints}
 
 -- whether an image is accepted
-unfoldable pub read_said : Outcome (Unit {0}) → LiskobranAnswer
+abbrev pub read_said : Outcome (Unit {0}) → LiskobranAnswer
 read_said (gives accepted) = record { number = 0; place = 0 }
 read_said (refuses number place) = record { number = number; place = place }
 
 -- the points of a pair
-unfoldable pub points_said : Outcome Points → LiskobranPoints
+abbrev pub points_said : Outcome Points → LiskobranPoints
 points_said (gives points) =
     record { number = 0; place = 0; publishing = points.publishing; reading = points.reading }
 points_said (refuses number place) = record { number = number; place = place; publishing = 0; reading = 0 }
 
 -- how many bytes the listing of a core fills
-unfoldable pub listing_said : Outcome ℕ → LiskobranListing
+abbrev pub listing_said : Outcome ℕ → LiskobranListing
 listing_said (gives bytes) = record { number = 0; place = 0; bytes = bytes }
 listing_said (refuses number place) = record { number = number; place = place; bytes = 0 }
 
 -- the ages of a chain
-unfoldable pub ages_said : Outcome Ages → LiskobranAges
+abbrev pub ages_said : Outcome Ages → LiskobranAges
 ages_said (gives ages) = record {
   number = 0;
   place = 0;

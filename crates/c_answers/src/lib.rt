@@ -1,12 +1,12 @@
 // What the C interface says: of each question its answer, or its refusal, as a struct of numbers. The number is 0 where the
 // question is answered, and else that of document 01, Numbers that say no; a refusal "carries no other value", so the rest
-// of it is 0. What each says: specs/Said.antt.
+// of it is 0. Each answer of a question is one of these by `into`. What each says: specs/Said.antt.
 #![tactic(auto)]
 
-pub mod of_chain;
-pub mod of_core;
-pub mod of_image;
-pub mod of_pair;
+mod of_chain;
+mod of_core;
+mod of_image;
+mod of_pair;
 
 // Of an image: 0 and 0 where it is accepted, else the refusal's number and place.
 #[repr(C)]

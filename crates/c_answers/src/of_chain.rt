@@ -1,44 +1,35 @@
-// What is said of the ages of a chain.
+// What is said of the ages of a chain: number of paths, longest length, worst age, best age, jitter, or they are refused.
 ghost use Rattle.std.specs.Prelude.{◌≡◌};
-ghost use Rattle.outcomes.specs.Outcome.{gives, refuses};
-ghost use Rattle.table.specs.Refusals.{number_of};
+ghost use Rattle.aged_chains.specs.Aged.{said_of_ages};
 ghost use Rattle.c_answers.specs.Said.{ages_said};
 
 use crate::LiskobranAges;
-use table::{Refusal, number_of};
+use aged_chains::Ages;
+use table::Refused;
 
-// Number of paths, longest length, worst age, best age, jitter.
-pub fn given(paths: u32, longest: u32, worst: u32, best: u32, jitter: u32) -> LiskobranAges
-    ensures { result ≡ ages_said (gives (record {
-      paths = paths;
-      longest = longest;
-      worst = worst;
-      best = best;
-      jitter = jitter;
-    })) }
-{
-    LiskobranAges {
-        number: 0,
-        place: 0,
-        paths,
-        longest,
-        worst,
-        best,
-        jitter,
-    }
-}
+impl From<Result<Ages, Refused>> for LiskobranAges {
+    ghost from_gives = { λ answer said. said ≡ ages_said (said_of_ages answer) };
 
-// They are refused.
-pub fn refused(refusal: Refusal, place: usize) -> LiskobranAges
-    ensures { result ≡ ages_said (refuses (number_of refusal) place) }
-{
-    LiskobranAges {
-        number: number_of(refusal),
-        place: place as u64,
-        paths: 0,
-        longest: 0,
-        worst: 0,
-        best: 0,
-        jitter: 0,
+    fn from(answer: Result<Ages, Refused>) -> LiskobranAges {
+        match answer {
+            Ok(ages) => LiskobranAges {
+                number: 0,
+                place: 0,
+                paths: ages.paths,
+                longest: ages.longest,
+                worst: ages.worst,
+                best: ages.best,
+                jitter: ages.jitter,
+            },
+            Err(Refused { refusal, place }) => LiskobranAges {
+                number: refusal.into(),
+                place: place as u64,
+                paths: 0,
+                longest: 0,
+                worst: 0,
+                best: 0,
+                jitter: 0,
+            },
+        }
     }
 }

@@ -1,30 +1,26 @@
-// What is said of the copy listing of a core.
+// What is said of the copy listing of a core: how many bytes it fills, or it is refused.
 ghost use Rattle.std.specs.Prelude.{◌≡◌};
-ghost use Rattle.outcomes.specs.Outcome.{gives, refuses};
-ghost use Rattle.table.specs.Refusals.{number_of};
+ghost use Rattle.table.specs.Refusals.{said_of};
 ghost use Rattle.c_answers.specs.Said.{listing_said};
 
 use crate::LiskobranListing;
-use table::{Refusal, number_of};
+use table::Refused;
 
-// How many bytes it fills.
-pub fn given(bytes: usize) -> LiskobranListing
-    ensures { result ≡ listing_said (gives bytes) }
-{
-    LiskobranListing {
-        number: 0,
-        place: 0,
-        bytes: bytes as u64,
-    }
-}
+impl From<Result<usize, Refused>> for LiskobranListing {
+    ghost from_gives = { λ answer said. said ≡ listing_said (said_of answer) };
 
-// It is refused.
-pub fn refused(refusal: Refusal, place: usize) -> LiskobranListing
-    ensures { result ≡ listing_said (refuses (number_of refusal) place) }
-{
-    LiskobranListing {
-        number: number_of(refusal),
-        place: place as u64,
-        bytes: 0,
+    fn from(answer: Result<usize, Refused>) -> LiskobranListing {
+        match answer {
+            Ok(bytes) => LiskobranListing {
+                number: 0,
+                place: 0,
+                bytes: bytes as u64,
+            },
+            Err(Refused { refusal, place }) => LiskobranListing {
+                number: refusal.into(),
+                place: place as u64,
+                bytes: 0,
+            },
+        }
     }
 }

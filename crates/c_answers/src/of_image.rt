@@ -1,28 +1,24 @@
-// What is said of an image alone.
+// What is said of an image alone: it is accepted, or refused.
 ghost use Rattle.std.specs.Prelude.{◌≡◌};
-ghost use Rattle.outcomes.specs.Outcome.{gives, refuses};
-ghost use Rattle.table.specs.Refusals.{number_of};
+ghost use Rattle.table.specs.Refusals.{said_of_image};
 ghost use Rattle.c_answers.specs.Said.{read_said};
 
 use crate::LiskobranAnswer;
-use table::{Refusal, number_of};
+use table::Refused;
 
-// It is accepted.
-pub fn accepted() -> LiskobranAnswer
-    ensures { result ≡ read_said (gives tt) }
-{
-    LiskobranAnswer {
-        number: 0,
-        place: 0,
-    }
-}
+impl From<Result<(), Refused>> for LiskobranAnswer {
+    ghost from_gives = { λ answer said. said ≡ read_said (said_of_image answer) };
 
-// It is refused.
-pub fn refused(refusal: Refusal, place: usize) -> LiskobranAnswer
-    ensures { result ≡ read_said (refuses (number_of refusal) place) }
-{
-    LiskobranAnswer {
-        number: number_of(refusal),
-        place: place as u64,
+    fn from(answer: Result<(), Refused>) -> LiskobranAnswer {
+        match answer {
+            Ok(()) => LiskobranAnswer {
+                number: 0,
+                place: 0,
+            },
+            Err(Refused { refusal, place }) => LiskobranAnswer {
+                number: refusal.into(),
+                place: place as u64,
+            },
+        }
     }
 }

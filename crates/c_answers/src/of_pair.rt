@@ -1,32 +1,29 @@
-// What is said of the points of a pair of tasks.
+// What is said of the points of a pair of tasks: P(n) and Q(n), or they are refused.
 ghost use Rattle.std.specs.Prelude.{◌≡◌};
-ghost use Rattle.outcomes.specs.Outcome.{gives, refuses};
-ghost use Rattle.table.specs.Refusals.{number_of};
+ghost use Rattle.pair_points.specs.PairPoints.{said_of_points};
 ghost use Rattle.c_answers.specs.Said.{points_said};
 
 use crate::LiskobranPoints;
-use table::{Refusal, number_of};
+use pair_points::Points;
+use table::Refused;
 
-// P(n) and Q(n).
-pub fn given(publishing: u64, reading: u64) -> LiskobranPoints
-    ensures { result ≡ points_said (gives (record { publishing = publishing; reading = reading })) }
-{
-    LiskobranPoints {
-        number: 0,
-        place: 0,
-        publishing,
-        reading,
-    }
-}
+impl From<Result<Points, Refused>> for LiskobranPoints {
+    ghost from_gives = { λ answer said. said ≡ points_said (said_of_points answer) };
 
-// They are refused.
-pub fn refused(refusal: Refusal, place: usize) -> LiskobranPoints
-    ensures { result ≡ points_said (refuses (number_of refusal) place) }
-{
-    LiskobranPoints {
-        number: number_of(refusal),
-        place: place as u64,
-        publishing: 0,
-        reading: 0,
+    fn from(answer: Result<Points, Refused>) -> LiskobranPoints {
+        match answer {
+            Ok(points) => LiskobranPoints {
+                number: 0,
+                place: 0,
+                publishing: points.publishing,
+                reading: points.reading,
+            },
+            Err(Refused { refusal, place }) => LiskobranPoints {
+                number: refusal.into(),
+                place: place as u64,
+                publishing: 0,
+                reading: 0,
+            },
+        }
     }
 }

@@ -3,8 +3,7 @@ ghost use Rattle.std.specs.Prelude.{◌≡◌, length};
 ghost use Rattle.questions.specs.Questions.{bytes_listed, lent_after, listing};
 ghost use Rattle.c_answers.specs.Said.{listing_said};
 
-use c_answers::{LiskobranListing, of_core};
-use questions::ListingAnswer;
+use c_answers::LiskobranListing;
 
 // The copy listing of core `core` of the image's table, in the first bytes of the lent buffer.
 pub fn liskobran_listing_slice(image: &[u8], core: u64, buffer: &mut [u8]) -> LiskobranListing
@@ -13,9 +12,5 @@ pub fn liskobran_listing_slice(image: &[u8], core: u64, buffer: &mut [u8]) -> Li
     ensures lent { buffer.new
         ≡ lent_after (listing image.now core (length buffer.old)) buffer.old }
 {
-    let answer = questions::listing(image, core, buffer);
-    match answer {
-        ListingAnswer::Listed { bytes } => of_core::given(bytes),
-        ListingAnswer::Refused { refusal, place } => of_core::refused(refusal, place),
-    }
+    questions::listing(image, core, buffer).into()
 }

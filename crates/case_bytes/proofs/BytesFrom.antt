@@ -3,23 +3,23 @@ use Prim.Native.Nat.{ℕ, zero, suc, ◌+◌, ◌*◌, ◌-◌, ◌<◌, ◌≤�
 use mathlib.Core.Path.{◌≡◌, refl, sym, ap, ◌∙◌}
 use mathlib.Core.List.{List, [], ◌∷◌, ◌++◌, append-nil}
 use native.Mathlib.Omega.{arith}
-use borrow.Author.Tests.{lt-ltb, le-ltb}
 use lib.ListN.{length, set, length-append}
 use lib.Seq.{append_snoc}
 use Rattle.lists.specs.Lists.{over}
 use Rattle.lists.proofs.Over.{over_none, over_more, length_over}
+use Rattle.std.specs.Prelude.{None, Some}
 use Rattle.case_bytes.specs.Images.{byte_at, bytes_from}
 
 module _ (text : List ℕ) (at : ℕ) where
-  bytes_more : (most : ℕ) → byte_at text at < 256
-      → bytes_from text (suc most) at ≡ byte_at text at ∷ bytes_from text most (at + 3)
+  bytes_more : (most byte : ℕ) → byte_at text at ≡ Some byte
+      → bytes_from text (suc most) at ≡ byte ∷ bytes_from text most (at + 3)
   unfolding bytes_from
-  bytes_more most small = rw (lt-ltb _ _ small)
+  bytes_more most byte here = rw here
 
-  bytes_end : (most : ℕ) → 256 ≤ byte_at text at → bytes_from text most at ≡ []
+  bytes_end : (most : ℕ) → byte_at text at ≡ None → bytes_from text most at ≡ []
   unfolding bytes_from
   bytes_end zero none = refl
-  bytes_end (suc most) none = rw (le-ltb _ _ none)
+  bytes_end (suc most) none = rw none
 
 -- so many of the bytes were read, over what the buffer held; the others stand from `end` on
 pub record Filled (text held : List ℕ) (at : ℕ) (room : List ℕ) (count end : ℕ) : Type 0 where
@@ -49,9 +49,9 @@ module _ (text held : List ℕ) (at : ℕ) (room : List ℕ) (count end : ℕ) (
     filled_length = rw (filled.stored, length_over filled.done held)
 
     -- one byte more
-    pub filled_more : count < length held → (byte : ℕ) → byte ≡ byte_at text end → byte < 256
+    pub filled_more : count < length held → (byte : ℕ) → byte_at text end ≡ Some byte
         → Filled text held at (set room count byte) (count + 1) (end + 3)
-    filled_more inside byte same small =
+    filled_more inside byte here =
         let left : length held - count ≡ suc (length held - (count + 1)) = omega arith in
         record {
           done = filled.done ++ byte ∷ [];
@@ -59,10 +59,7 @@ module _ (text held : List ℕ) (at : ℕ) (room : List ℕ) (count end : ℕ) (
           within = omega arith;
           ended = omega (arith, filled.ended);
           stored = rw (filled.stored, ← filled.counted) (over_more filled.done held byte);
-          rest =
-              filled.rest
-              ∙ rw (left, same, bytes_more text end _ (omega arith))
-              (sym (append_snoc filled.done (byte_at text end) _));
+          rest = filled.rest ∙ rw (left, bytes_more text end _ byte here) (sym (append_snoc filled.done byte _));
         }
 
     -- the end: no byte stands there, or the buffer is full
@@ -72,7 +69,7 @@ module _ (text held : List ℕ) (at : ℕ) (room : List ℕ) (count end : ℕ) (
         let all : bytes_from text (length held) at ≡ filled.done = filled.rest ∙ rw (none, append-nil) in
         (sym filled.counted ∙ rw (← all), filled.stored ∙ rw (← all))
 
-    pub filled_stopped : 256 ≤ byte_at text end
+    pub filled_stopped : byte_at text end ≡ None
         → (count ≡ length (bytes_from text (length held) at)) × (room ≡ over (bytes_from text (length held) at) held)
     filled_stopped none = filled_end (bytes_end text end _ none)
 

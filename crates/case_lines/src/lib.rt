@@ -1,66 +1,50 @@
-// A line of a case, read: what it asks, and of which image. What a line says: crates/run_cases, src/main.rt.
+// A line of a case, read: what it asks, and of which image. What a line says: specs/, and crates/run_cases, src/main.rt.
 #![tactic(auto)]
 
-ghost use Rattle.std.specs.Prelude.{◌≤◌, length};
+ghost use Rattle.std.specs.Prelude.{◌≤◌, ◌↔◌, length, IfNone, IfSome, IsTrue};
+ghost use Rattle.case_lines.specs.declared.Case.{Case};
+ghost use Rattle.case_lines.specs.Lines.{IsPassedOver, Says};
 
 use case_bytes::bytes_at;
 use case_words::{Question, asked_by, question_of};
 use lines::numbers::{Numbers, numbers_at};
 use lines::places::first_from;
 
-// A question, its numbers, and how many bytes its image has. A line that cannot be read asks the unknown question.
+// A question, its numbers, and the bytes of its image.
 #[derive(Drop)]
-pub struct Case {
+pub struct Case<'a> {
     pub question: Question,
     pub numbers: Numbers,
-    pub count: usize,
+    pub image: &'a [u8],
 }
 
 // A line that is no case: it is empty, or a remark.
-pub fn passed_over(line: &[u8]) -> bool {
-    if line.len() == 0 {
-        return true;
-    }
-    line[0] == b'#'
+pub fn passed_over(line: &[u8]) -> bool
+    ensures { IsTrue result ↔ IsPassedOver line.now }
+{
+    line.is_empty() || line.starts_with(b"#")
 }
 
-// A question whose numbers start at a place of a line; its image, which ends with the line, goes into lent bytes.
-fn case_with(line: &[u8], at: usize, question: Question, image: &mut [u8]) -> Case
-    ensures { result.count ≤ length image.new }
+// The case whose question starts at a place of a line; its image, which ends with the line, goes into the room that is
+// lent. None where the line cannot be read.
+pub fn case_at<'a>(line: &[u8], start: usize, room: &'a mut [u8]) -> Option<Case<'a>>
+    ensures within { IfSome result (λ case. length case.image.now ≤ length room.old) }
+    ensures said { IfSome result (λ case. Says line.now start (length room.old) case) }
+    ensures unsaid { IfNone result ((case : Case) → ¬ (Says line.now start (length room.old) case)) }
 {
-    let numbers = numbers_at(line, at, asked_by(question));
-    let read = bytes_at(line, numbers.end, image);
-    if read.end == line.len() {
-        return Case {
-            question,
-            numbers,
-            count: read.count,
-        };
+    if line.len() <= start {
+        return None;
     }
-    Case {
-        question: Question::Unknown,
+    let end = first_from(line, start + 1, b' ');
+    let question = question_of(&line[start..end])?;
+    let numbers = numbers_at(line, end, asked_by(question))?;
+    let read = bytes_at(line, numbers.end, room);
+    if read.end != line.len() {
+        return None;
+    }
+    Some(Case {
+        question,
         numbers,
-        count: 0,
-    }
-}
-
-// The case whose question starts at a place of a line.
-pub fn case_at(line: &[u8], start: usize, image: &mut [u8]) -> Case
-    ensures { result.count ≤ length image.new }
-{
-    if start < line.len() {
-        let end = first_from(line, start + 1, b' ');
-        let question = question_of(&line[start..end]);
-        return case_with(line, end, question, image);
-    }
-    Case {
-        question: Question::Unknown,
-        numbers: Numbers {
-            first: 0,
-            second: 0,
-            third: 0,
-            end: 0,
-        },
-        count: 0,
-    }
+        image: &room[..read.count],
+    })
 }

@@ -1,7 +1,7 @@
 -- The words that questions go by, each after one space. Assumes nothing.
-use Rattle.std.specs.Prelude.{ℕ, ◌≡◌, List, [], ◌∷◌}
+use Rattle.std.specs.Prelude.{ℕ, ◌≡◌, List, [], ◌∷◌, Option, None, Some}
 use Rattle.case_words.specs.declared.Question.{Question}
-use Rattle.case_words.specs.declared.Question.TheVariants.{Image, Points, Listing, Ages, Directly, Unknown}
+use Rattle.case_words.specs.declared.Question.TheVariants.{Image, Points, Listing, Ages, Directly}
 
 -- " image"
 abbrev pub image_word : List ℕ
@@ -23,14 +23,14 @@ ages_word = 32 ∷ 97 ∷ 103 ∷ 101 ∷ 115 ∷ []
 abbrev pub directly_word : List ℕ
 directly_word = 32 ∷ 100 ∷ 105 ∷ 114 ∷ 101 ∷ 99 ∷ 116 ∷ 108 ∷ 121 ∷ []
 
--- what a question goes by; one that is unknown by anything else
-abbrev pub Goes : Question → List ℕ → Type 0
-Goes Image part = part ≡ image_word
-Goes Points part = part ≡ points_word
-Goes Listing part = part ≡ listing_word
-Goes Ages part = part ≡ ages_word
-Goes Directly part = part ≡ directly_word
-Goes Unknown part =
+-- what a question goes by; no question by anything else
+abbrev pub Goes : Option Question → List ℕ → Type 0
+Goes (Some Image) part = part ≡ image_word
+Goes (Some Points) part = part ≡ points_word
+Goes (Some Listing) part = part ≡ listing_word
+Goes (Some Ages) part = part ≡ ages_word
+Goes (Some Directly) part = part ≡ directly_word
+Goes None part =
     ¬ (part ≡ image_word) × ¬ (part ≡ points_word) × ¬ (part ≡ listing_word) × ¬ (part ≡ ages_word)
     × ¬ (part ≡ directly_word)
 
@@ -41,4 +41,3 @@ asked_by Points = 3
 asked_by Listing = 2
 asked_by Ages = 1
 asked_by Directly = 3
-asked_by Unknown = 0

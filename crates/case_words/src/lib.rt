@@ -13,29 +13,20 @@ pub enum Question {
     Listing,
     Ages,
     Directly,
-    Unknown,
 }
 
-// The question that a part of a line asks.
-pub fn question_of(part: &[u8]) -> Question
+// The question that a part of a line asks; none where it is no question's word.
+pub fn question_of(part: &[u8]) -> Option<Question>
     ensures { Goes result part.now }
 {
-    if part == b" image".as_slice() {
-        return Question::Image;
+    match part {
+        b" image" => Some(Question::Image),
+        b" points" => Some(Question::Points),
+        b" listing" => Some(Question::Listing),
+        b" ages" => Some(Question::Ages),
+        b" directly" => Some(Question::Directly),
+        _ => None,
     }
-    if part == b" points".as_slice() {
-        return Question::Points;
-    }
-    if part == b" listing".as_slice() {
-        return Question::Listing;
-    }
-    if part == b" ages".as_slice() {
-        return Question::Ages;
-    }
-    if part == b" directly".as_slice() {
-        return Question::Directly;
-    }
-    Question::Unknown
 }
 
 // How many numbers a question has.
@@ -48,6 +39,5 @@ pub fn asked_by(question: Question) -> u32
         Question::Listing => 2,
         Question::Ages => 1,
         Question::Directly => 3,
-        Question::Unknown => 0,
     }
 }

@@ -1,7 +1,7 @@
 -- The task numbers of a chain, step by step: none, one more, and the two refusals. No contract cites this file. Assumes
 -- nothing.
 use Prim.Native.Nat.{ℕ, ◌+◌, ◌*◌, ◌<◌}
-use mathlib.Core.Path.{◌≡◌, refl, sym, ap, ◌∙◌}
+use mathlib.Core.Path.{◌≡◌, refl, sym, ap}
 use mathlib.Core.Bool.{true, false}
 use mathlib.Core.List.{List, [], ◌∷◌, ◌++◌}
 use native.Mathlib.Nat.{add-zero, mul-zero}
@@ -16,13 +16,11 @@ use Rattle.table.specs.Refusals.{number_of}
 use Rattle.table.specs.Table.{joins}
 use Rattle.table.specs.Image.{step_holds, chain_task}
 use Rattle.chain_steps.specs.Parts.{StepsTaken}
-use Rattle.table.specs.declared.Answer.{Answer}
-use Rattle.table.specs.declared.Answer.TheVariants.{Accepted, Refused}
-use Rattle.table.specs.declared.Refusal.{Refusal}
-use Rattle.table.specs.declared.Refusal.TheVariants as refusal
+use Rattle.table.specs.declared.Refused.{Refused}
+use Rattle.table.specs.declared.Refusal.TheVariants.{Chain}
 use Rattle.table.specs.declared.Table.{Table}
 use Rattle.table.proofs.ChainRules.{step_from_last}
-use Rattle.fields.proofs.Steps.{still_refused}
+use Rattle.std.specs.Prelude.{Ok, Err}
 use Rattle.taking.proofs.Stricter.{stricter_refused, stricter_taken, stricter_wrong}
 use Rattle.taking.proofs.Rows.{row_more, row_refused}
 
@@ -75,7 +73,7 @@ module _ (image : List ℕ) (at : ℕ) (table : Table) where
 
       -- no label goes from the earlier task to it
       pub steps_unjoined : (count : ℕ) → j < count → step_holds table passed.values x ≡ false
-          → StepsTaken image at table count (record { answer = Refused refusal.Chain (at + 5 * j); row = set row j x })
+          → StepsTaken image at table count (Err (record { refusal = Chain; place = at + 5 * j }))
       unfolding chain_task
       steps_unjoined count more fails = record {
         steps = passed.values ++ x ∷ [];
@@ -83,26 +81,24 @@ module _ (image : List ℕ) (at : ℕ) (table : Table) where
             (row_refused (λ before. field 5 8 (chain_task table before)) image at j count _ _ _ more passed.taken_row
             (stricter_wrong 5 8 (λ v. ltb v table.tasks) (step_holds table passed.values) image (at + 5 * j)
             taken fails));
-        held = row_held;
+        held = tt;
       }
 
     -- the next number is refused
-    pub steps_refused : (count : ℕ) → j < count → (answer : Answer) (r : Refusal) (p : ℕ) → answer ≡ Refused r p
-        → field 5 8 (λ v. ltb v table.tasks) image (at + 5 * j) ≡ refuses (number_of r) p
-        → StepsTaken image at table count (record { answer = answer; row = row })
+    pub steps_refused : (count : ℕ) → j < count → (refused : Refused)
+        → field 5 8 (λ v. ltb v table.tasks) image (at + 5 * j) ≡ refuses (number_of refused.refusal) refused.place
+        → StepsTaken image at table count (Err refused)
     unfolding chain_task
-    steps_refused count more answer r p told refused = record {
+    steps_refused count more refused said = record {
       steps = passed.values;
-      said = still_refused _ r told
-          ∙ sym (row_refused (λ before. field 5 8 (chain_task table before)) image at j count _ _ p more
+      said = sym (row_refused (λ before. field 5 8 (chain_task table before)) image at j count _ _ _ more
           passed.taken_row
           (stricter_refused 5 8 (λ v. ltb v table.tasks) (step_holds table passed.values) image
-          (at + 5 * j) refused));
-      held = passed.held;
+          (at + 5 * j) said));
+      held = tt;
     }
 
-    pub steps_whole : (count : ℕ) → j ≡ count → StepsTaken image at table count
-        (record { answer = Accepted; row = row })
+    pub steps_whole : (count : ℕ) → j ≡ count → StepsTaken image at table count (Ok row)
     steps_whole count all = record {
       steps = passed.values;
       said = rw (← all) (sym passed.taken_row);

@@ -3,7 +3,6 @@
 use Prim.Native.Nat.{ℕ, suc, ◌<◌, ◌≤◌}
 use mathlib.Core.Path.{◌≡◌, refl, ap, ◌∙◌}
 use mathlib.Core.Bool.{Bool, true, false, ◌&&◌, or-false}
-use mathlib.Core.List.{List}
 use native.Mathlib.Omega.{arith}
 use lib.Dec.{eqb}
 use lib.ListN.{get_or}
@@ -12,22 +11,9 @@ use Rattle.lists.specs.Lists.{some_below}
 use Rattle.lists.proofs.Lists.{some_below_found}
 use Rattle.lists.proofs.Last.{last_within, last_passes, last_enough}
 use Rattle.table.specs.Table.{writer_of, readers_of, marks, reads, joins}
-use Rattle.chain_steps.specs.Linked.{last_written, Linked, Labelled, Searched}
+use Rattle.chain_steps.specs.Linked.{last_written, latest_of, before_of, Linked}
+use Rattle.chain_steps.specs.declared.links.Links.{Links}
 use Rattle.table.specs.declared.Table.{Table}
-
--- a table is given as it is
-pub as_it_is : (table : Table) → Labelled table.tasks table.labels table.writer table.readers table
-as_it_is table = record { tasks_same = refl; labels_same = refl; writer_same = refl; readers_same = refl }
-
--- what the search is given of a table that is given with its writers, once they are linked
-pub with_links : {tasks labels : ℕ} {writer readers latest before : List ℕ} {table : Table}
-    → Labelled tasks labels writer readers table → Linked writer labels latest before
-    → Searched tasks readers latest before table
-with_links given linked = record {
-  tasks_same = given.tasks_same;
-  readers_same = given.readers_same;
-  linked = rw (given.writer_same, given.labels_same) linked;
-}
 
 module _ (table : Table) (w r : ℕ) where
   abbrev goes_to : ℕ → Bool
@@ -53,14 +39,14 @@ module _ (table : Table) (w r : ℕ) where
         few = omega arith;
       }
 
-  module _ {latest before : List ℕ} (linked : Linked table.writer table.labels latest before) where
-    pub search_begins : w < 32 → Searching (get_or latest w 0)
+  module _ {links : Links} (linked : Linked table.writer table.labels links) where
+    pub search_begins : w < 32 → Searching (latest_of links w)
     unfolding joins
     search_begins known = rw (linked.of_tasks w known) (latest_decide table.labels (omega arith) refl)
 
     -- the last label of those does not go to r
     pub search_goes_on : w < 32 → {l : ℕ} (k : ℕ) → l ≡ suc k → Searching l → marks (readers_of table k) r ≡ false
-        → Searching (get_or before k 0)
+        → Searching (before_of links k)
     unfolding some_below reads writer_of
     search_goes_on known k last searching unmarked =
         let writes = searching.written k last in

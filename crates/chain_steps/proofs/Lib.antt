@@ -1,4 +1,5 @@
 -- Laws of this crate.
 mod ChainSteps
-pub mod LabelSearch
+mod LabelSearch
+mod Linking
 mod StepSearch

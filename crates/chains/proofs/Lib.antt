@@ -1,3 +1,3 @@
--- Laws of the parts, and of a table that a part is given some arrays of.
+-- Laws of the parts, and of a table of which only so many labels are looked at as its arrays hold.
 mod ChainRows
-mod Linking
+mod SameChains

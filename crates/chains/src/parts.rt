@@ -1,11 +1,6 @@
-// What reading one chain answers: an answer and, beside it, what was read. Of a refused chain what stands beside the
-// answer says nothing. What it stands for: specs/Parts.antt.
-use table::Answer;
-
-// One chain.
-#[derive(Drop)]
-pub struct ChainRead {
-    pub answer: Answer,
+// One chain that was read: how many tasks it has, and a row of their numbers, which holds 0 past them.
+#[derive(Clone, Copy)]
+pub struct Chain {
     pub length: u32,
     pub row: [u32; 8],
 }

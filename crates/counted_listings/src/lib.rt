@@ -2,104 +2,81 @@
 // 11, "lent buffer shorter than the listing"), which is known before a byte is written.
 #![tactic(auto)]
 
-ghost use Rattle.std.specs.Prelude.{◌≤◌, length};
-ghost use Rattle.table.specs.declared.Table.{Table};
+ghost use Rattle.std.specs.Prelude.{◌≡◌, ◌≤◌, ◌<◌, length, IfNone, IfSome};
 ghost use Rattle.frames.specs.Ready.{Ready};
 ghost use Rattle.counted_listings.specs.Listed.{Fills, ListsBy};
 
 use frames::counts::count_frames;
 use frames::gather_both;
 use framing::write_listing;
+use label_masks::LabelMasks;
+use table::Table;
 
-// Whether there is room for a listing, and how many bytes it fills; none where there is no room.
-#[derive(Drop)]
-pub struct Filled {
-    pub fits: bool,
-    pub bytes: usize,
-}
-
-// The listing, by the counters of the core at tick 0, where there is room for it. The counters are gathered again for
-// the second round of the walk.
-pub fn listed(
+// The listing, by the counters of the core at tick 0, where there is room for it: how many bytes it fills. The counters
+// are gathered again for the second round of the walk.
+fn listed(
+    table: &Table,
     core: u32,
-    tasks: usize,
     round: u32,
-    writer: &[u32; 64],
-    readers: &[u32; 64],
-    cores: &[u32; 32],
-    periods: &[u32; 32],
+    masks: &LabelMasks,
     joined: &[u32; 32],
-    written: &[u64; 32],
-    read: &[u64; 32],
     publishing: &mut [u32],
     reading: &mut [u32],
     buffer: &mut [u8],
-) -> Filled
-    requires { (length reading.old ≤ 1024) × ((table : Table)
-        × ListsBy table core tasks round writer.now readers.now cores.now periods.now joined.now written.now
-        read.now
-        × Ready table core 0 publishing.old reading.old) }
-    ensures { (table : Table)
-        → ListsBy table core tasks round writer.now readers.now cores.now
-        periods.now joined.now written.now read.now
-        → Ready table core 0 publishing.old reading.old
-        → Fills table core buffer.old result buffer.new }
+) -> Option<usize>
+    requires few { length reading.old ≤ 1024 }
+    requires by { ListsBy table.now core round masks.now joined.now }
+    requires ready { Ready table.now core 0 publishing.old reading.old }
+    ensures { Fills table.now core buffer.old result buffer.new }
 {
-    let measured = count_frames(round, periods, written, read, publishing, reading);
-    let frames = measured.frames;
-    let bits = 43 + 32 * (frames as u64) + 12 * measured.copies;
-    if (buffer.len() as u64) < (bits + 7) / 8 {
-        return Filled {
-            fits: false,
-            bytes: 0,
-        };
+    let measured = count_frames(round, table, masks, publishing, reading);
+    let bits = 43 + 32 * u64::from(measured.frames) + 12 * measured.copies;
+    // A length is a `usize`, from which the language has no conversion to `u64` but `as`.
+    if (buffer.len() as u64) < bits.div_ceil(8) {
+        return None;
     }
-    let _both = gather_both(core, tasks, cores, joined, publishing, reading);
-    let bytes = write_listing(
-        buffer, core, round, frames, writer, readers, periods, written, read, publishing, reading,
-    );
-    Filled { fits: true, bytes }
+    gather_both(core, table, joined, publishing, reading);
+    Some(write_listing(
+        buffer,
+        core,
+        round,
+        measured.frames,
+        table,
+        masks,
+        publishing,
+        reading,
+    ))
 }
 
-// The listing, by as many counters as there can be.
-pub fn many_listed(
+// The listing, by N places for the counters of each kind; `None` where the core has more of them than that.
+pub fn listed_in<const N: usize>(
+    table: &Table,
     core: u32,
-    tasks: usize,
     round: u32,
-    writer: &[u32; 64],
-    readers: &[u32; 64],
-    cores: &[u32; 32],
-    periods: &[u32; 32],
+    masks: &LabelMasks,
     joined: &[u32; 32],
-    written: &[u64; 32],
-    read: &[u64; 32],
     buffer: &mut [u8],
-) -> Filled
-    requires { (table : Table) × ListsBy table core tasks round writer.now readers.now cores.now periods.now
-        joined.now written.now read.now }
-    ensures { (table : Table)
-        → ListsBy table core tasks round writer.now readers.now cores.now
-        periods.now joined.now written.now read.now
-        → Fills table core buffer.old result buffer.new }
+) -> Option<Option<usize>>
+    requires few_places { N ≤ 1024 }
+    requires by { ListsBy table.now core round masks.now joined.now }
+    ensures listed { IfSome result (λ listed. Fills table.now core buffer.old listed buffer.new) }
+    ensures unlisted { IfNone result ((N < 1024) × (buffer.new ≡ buffer.old)) }
 {
-    let mut publishing = [4294967295u32; 1024];
-    let mut reading = [4294967295u32; 1024];
-    let both = gather_both(core, tasks, cores, joined, &mut publishing, &mut reading);
-    let first = both.publishing;
-    let second = both.reading;
-    listed(
-        core,
-        tasks,
-        round,
-        writer,
-        readers,
-        cores,
-        periods,
-        joined,
-        written,
-        read,
-        &mut publishing[0..first],
-        &mut reading[0..second],
-        buffer,
-    )
+    let mut publishing = [u32::MAX; N];
+    let mut reading = [u32::MAX; N];
+    let both = gather_both(core, table, joined, &mut publishing, &mut reading);
+    if both.publishing > N || both.reading > N {
+        None
+    } else {
+        Some(listed(
+            table,
+            core,
+            round,
+            masks,
+            joined,
+            &mut publishing[..both.publishing],
+            &mut reading[..both.reading],
+            buffer,
+        ))
+    }
 }

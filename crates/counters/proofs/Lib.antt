@@ -1,2 +1,3 @@
 -- Laws of the definitions.
+mod Tallied
 pub mod Turn

@@ -3,11 +3,11 @@
 use Prim.Native.Nat.{ℕ, suc, ◌+◌, ◌<◌, ◌≤◌, min}
 use mathlib.Core.Path.{◌≡◌, refl, sym, ap, ◌∙◌}
 use mathlib.Core.Bool.{Bool}
-use mathlib.Core.List.{List, [], ◌∷◌, ◌++◌, map, map-append, append_assoc, append-nil}
+use mathlib.Core.List.{List, [], ◌∷◌, ◌++◌, map, map-append, append_assoc}
 use native.Mathlib.Numerals.{add-one}
 use native.Mathlib.Omega.{arith}
-use lib.ListN.{length, get_or, set, take, drop, length-append, length-map, length-take, length-drop}
-use lib.Seq.{take-suc, drop-cons, take_all, get_or_at, set_at}
+use lib.ListN.{length, get_or, set, take, drop, length-map, length-take}
+use lib.Seq.{take-suc, drop-cons, get_or_at, set_at}
 use lib.ListN.{drop_of_length-le}
 use Rattle.gathering.specs.Counters.{tick_in}
 use Rattle.counters.specs.Advanced.{stepped, folded, least_of, next_due}
@@ -37,16 +37,7 @@ module _ (reads : Bool) (periods : List ℕ) (t : ℕ) (entry : List ℕ) where
     long : length (map step (take i entry)) ≡ i
     long = omega (arith, length-map (take i entry) step, length-take i entry, so_far.within)
 
-    pub advancing_length : length counters ≡ length entry
-    advancing_length =
-        ap length so_far.stands
-        ∙ length-append (map step (take i entry)) (drop i entry)
-        ∙ omega (arith, length-drop i entry, long, so_far.within)
-
-    module _ (more : i < length counters) where
-      inside : i < length entry
-      inside = omega (arith, advancing_length)
-
+    module _ (inside : i < length entry) where
       rest : drop i entry ≡ get_or entry i 0 ∷ drop (suc i) entry
       rest = drop-cons entry i 0 inside
 
@@ -55,21 +46,16 @@ module _ (reads : Bool) (periods : List ℕ) (t : ℕ) (entry : List ℕ) where
           ap (λ l. get_or l i 0) so_far.stands
           ∙ rw rest (get_or_at (map step (take i entry)) (get_or entry i 0) (drop (suc i) entry) 0 i long)
 
-      stored_more
-          : set counters i (step (get_or counters i 0)) ≡ map step (take (suc i) entry) ++ drop (suc i) entry
-      stored_more =
-          rw (own, so_far.stands, rest, take-suc entry i 0 inside, map-append)
-          (set_at (map step (take i entry)) _ _ _ i long ∙ sym (append_assoc (map step (take i entry)) _ _))
-
       -- one more turn
-      pub advancing_more : {after : List ℕ} {lower : ℕ}
-          → after ≡ set counters i (step (get_or counters i 0)) → lower ≡ min least (step (get_or counters i 0))
-          → Advancing after lower (i + 1)
+      pub advancing_more : {next lower : ℕ} → next ≡ step (get_or counters i 0) → lower ≡ min least next
+          → Advancing (set counters i next) lower (i + 1)
       unfolding least_of
-      advancing_more stored less = rw add-one (record {
+      advancing_more stepped less = rw add-one (record {
         within = omega (arith, inside);
-        stands = stored ∙ stored_more;
-        lowest = rw (less, own) (rw rest at so_far.lowest);
+        stands =
+            rw (stepped, own, so_far.stands, rest, take-suc entry i 0 inside, map-append)
+            (set_at (map step (take i entry)) _ _ _ i long ∙ sym (append_assoc (map step (take i entry)) _ _));
+        lowest = rw (less, stepped, own) (rw rest at so_far.lowest);
       })
 
       pub folding_more : {S : Type 0} {with_one_lem : S → ℕ → S} {start state next : S}
@@ -79,14 +65,9 @@ module _ (reads : Bool) (periods : List ℕ) (t : ℕ) (entry : List ℕ) where
       folding_more folding new = rw add-one (record { same = rw (new, own) (rw rest at folding.same) })
 
     -- all are passed
-    module _ (over : length counters ≤ i) where
+    module _ (over : length entry ≤ i) where
       done : drop i entry ≡ []
-      done = drop_of_length-le entry {i = i} (omega (arith, advancing_length))
-
-      pub advanced_counters : counters ≡ map step entry
-      advanced_counters =
-          so_far.stands
-          ∙ rw (done, take_all i entry (omega (arith, advancing_length))) (append-nil (map step entry))
+      done = drop_of_length-le entry {i = i} over
 
       pub advanced_next : tick_in least ≡ next_due reads periods t entry
       unfolding next_due least_of

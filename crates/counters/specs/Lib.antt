@@ -1,2 +1,3 @@
 -- Definitions of this crate.
 pub mod Advanced
+pub mod Tallies

@@ -1,25 +1,20 @@
--- Two answers that say the same of a field are the same. Assumes nothing.
+-- Two answers that say the same of what was taken are the same. Assumes nothing.
 use Prim.Native.Nat.{ℕ}
 use mathlib.Core.Path.{◌≡◌, refl, sym, ap, ◌∙◌}
-use Rattle.outcomes.specs.Outcome.{Outcome, gives, asked_of}
-use Rattle.taking.specs.Reading.{Taken}
-use Rattle.table.specs.Refusals.{said_with, said_of_image}
+use Rattle.std.specs.Prelude.{Result, Ok, Err}
+use Rattle.outcomes.specs.Outcome.{gives, asked_of}
+use Rattle.table.specs.Refusals.{said_of}
+use Rattle.table.specs.declared.Refused.{Refused}
 use Rattle.table.proofs.Refusals.{same_answer}
-use Rattle.table.specs.declared.Answer.{Answer}
-use Rattle.table.specs.declared.Answer.TheVariants.{Accepted, Refused}
-use Rattle.fields.specs.GotField.{GotField}
-use Rattle.fields.specs.declared.Got.{Got}
+use Rattle.fields.specs.TakenTo.{taken_to}
 
--- the answer alone
-answer_of_lem : {A : Type 0} (answer : Answer) (a : A) → said_of_image answer ≡ asked_of (said_with answer a) (λ a. gives tt)
-answer_of_lem Accepted a = refl
-answer_of_lem (Refused refusal place) a = refl
+-- the answer without the bit after it
+said_alone : {A : Type 0} (next : ℕ) (r : Result A Refused)
+    → said_of r ≡ asked_of (taken_to next r) (λ taken. gives taken.value)
+said_alone next (Ok a) = refl
+said_alone next (Err refused) = refl
 
-pub got_determined : (outcome : Outcome (Taken ℕ)) (next : ℕ) (a b : Got)
-    → GotField outcome next a → GotField outcome next b → (a.answer ≡ b.answer) × (a.value ≡ b.value)
-got_determined outcome next a b of_a of_b = (
-  same_answer a.answer b.answer
-      (answer_of_lem a.answer _ ∙ ap (λ o. asked_of o (λ a. gives tt)) (of_a.said ∙ sym of_b.said)
-      ∙ sym (answer_of_lem b.answer _)),
-  of_a.value ∙ sym of_b.value,
-)
+pub taken_determined : {A : Type 0} (next : ℕ) (a b : Result A Refused) → taken_to next a ≡ taken_to next b → a ≡ b
+taken_determined next a b same =
+    same_answer a b
+    (said_alone next a ∙ ap (λ o. asked_of o (λ taken. gives taken.value)) same ∙ sym (said_alone next b))

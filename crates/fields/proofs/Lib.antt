@@ -1,4 +1,3 @@
 -- Laws of the crate, for the crates above and for the functions here.
 pub mod Determined
-pub mod GotLaws
 pub mod Steps

@@ -5,32 +5,48 @@ use mathlib.Core.Path.{◌≡◌, refl, sym, ap, ◌∙◌, fun_ext}
 use mathlib.Core.Bool.{Bool, ◌&&◌}
 use mathlib.Core.List.{List}
 use native.Mathlib.Omega.{arith}
-use borrow.Author.Tests.{le-leb, le-ltb, ne_eqb}
+use borrow.Author.Tests.{le-leb, lt-leb, lt-ltb, le-ltb, eq-eqb, ne_eqb}
+use mathlib.Core.Logic.{by_cases}
+use native.Mathlib.Decide.{dec_le}
+use Rattle.std.specs.Ordering.{is_le, is_lt, nat_cmp}
 use lib.Dec.{leb, ltb, eqb, leb-zero, leb-suc-suc}
+use Rattle.std.specs.Prelude.{Result, Ok, Err}
 use Rattle.outcomes.specs.Outcome.{Outcome, gives, refuses, asked_of}
 use Rattle.taking.specs.Reading.{Taken, field}
-use Rattle.table.specs.Refusals.{number_of, said_with, said_of_image}
-use Rattle.fields.specs.GotField.{got, in_range}
+use Rattle.table.specs.Refusals.{number_of}
 use Rattle.table.specs.Image.{between}
-use Rattle.table.specs.declared.Answer.{Answer}
-use Rattle.table.specs.declared.Answer.TheVariants.{Accepted, Refused}
-use Rattle.table.specs.declared.Refusal.{Refusal}
-use Rattle.fields.specs.declared.Got.{Got}
+use Rattle.table.specs.declared.Refused.{Refused}
+use Rattle.fields.specs.TakenTo.{in_range, taken_as}
 
--- what was accepted was taken
-pub taken : {A : Type 0} {answer : Answer} (a : A) {outcome : Outcome A}
-    → answer ≡ Accepted → said_with answer a ≡ outcome → outcome ≡ gives a
-taken a told said = sym said ∙ ap (λ answer. said_with answer a) told
+module _ {A B : Type 0} (shape : A → B) (next : ℕ) {r : Result A Refused} {outcome : Outcome (Taken B)} where
+  -- what is given was taken
+  pub taken : (a : A) → r ≡ Ok a → taken_as shape next r ≡ outcome → outcome ≡ gives (record { value = shape a; next = next })
+  taken a told said = sym said ∙ ap (taken_as shape next) told
 
--- what was refused was refused by that number, at that place
-pub not_taken : {A : Type 0} {answer : Answer} (a : A) {outcome : Outcome A} (r : Refusal) {p : ℕ}
-    → answer ≡ Refused r p → said_with answer a ≡ outcome → outcome ≡ refuses (number_of r) p
-not_taken a r told said = sym said ∙ ap (λ answer. said_with answer a) told
+  -- what was refused was refused by that number, at that place
+  pub not_taken : (refused : Refused) → r ≡ Err refused → taken_as shape next r ≡ outcome
+      → outcome ≡ refuses (number_of refused.refusal) refused.place
+  not_taken refused told said = sym said ∙ ap (taken_as shape next) told
 
--- a refusal says the same whatever stands beside it
-pub still_refused : {A : Type 0} {answer : Answer} (a : A) (r : Refusal) {p : ℕ}
-    → answer ≡ Refused r p → said_with answer a ≡ refuses (number_of r) p
-still_refused a r told = ap (λ answer. said_with answer a) told
+-- the library's test of a range is the code's
+le_test : (a b : ℕ) → is_le (nat_cmp a b) ≡ leb a b
+le_test a b =
+    by_cases (dec_le b a)
+    (λ after. by_cases (dec_le a b)
+    (λ before. rw (le-ltb a b after, eq-eqb a b (omega arith), le-leb a b before))
+    (λ past. rw (le-ltb a b after, ne_eqb a b (omega arith), lt-leb a b (omega arith))))
+    (λ before. rw (lt-ltb a b (omega arith), le-leb a b (omega arith)))
+
+lt_test : (a b : ℕ) → is_lt (nat_cmp a b) ≡ ltb a b
+lt_test a b =
+    by_cases (dec_le b a)
+    (λ after. by_cases (dec_le a b)
+    (λ before. rw (le-ltb a b after, eq-eqb a b (omega arith)))
+    (λ past. rw (le-ltb a b after, ne_eqb a b (omega arith))))
+    (λ before. rw (lt-ltb a b (omega arith)))
+
+pub range_test : (least v bound : ℕ) → (is_le (nat_cmp least v) && is_lt (nat_cmp v bound)) ≡ in_range least bound v
+range_test least v bound = rw (le_test least v, lt_test v bound)
 
 -- the code's test of a range is the test of the definition
 pub range_is_between : (least most : ℕ) → in_range least (suc most) ≡ between least most
@@ -54,47 +70,27 @@ range_one (suc (suc v)) =
 pub range_is_one : in_range 1 2 ≡ λ v. eqb v 1
 range_is_one = fun_ext (λ v. range_one v)
 
--- the last step of several: what was said of it is said of what it completes
-pub said_of_more : {A B : Type 0} (answer : Answer) (a : A) (more : A → B) {outcome : Outcome A}
-    → said_with answer a ≡ outcome → said_with answer (more a) ≡ asked_of outcome (λ x. gives (more x))
-said_of_more Accepted a more said = ap (λ outcome. asked_of outcome (λ x. gives (more x))) said
-said_of_more (Refused r p) a more said = ap (λ outcome. asked_of outcome (λ x. gives (more x))) said
+-- a field where a reader stands, whose test is written otherwise in the definitions; what follows it is handed its value, or
+-- its refusal is handed on
+module _ {B : Type 0} (w number : ℕ) {test test' : ℕ → Bool} (same : test ≡ test') {image image' : List ℕ} {at at' : ℕ}
+    (of_image : image' ≡ image) (of_place : at' ≡ at) (rest : Taken ℕ → Outcome B) where
+  pub step_on : {v : ℕ} → gives (record { value = v; next = at' + w }) ≡ field w number test image' at'
+      → asked_of (field w number test' image at) rest ≡ rest (record { value = v; next = at + w })
+  step_on said = rw (← same, ← of_image, ← of_place, ← said)
 
--- what comes of a step that follows an answer: the answer's refusal, where it is one
-abbrev After : {A : Type 0} → Answer → Outcome A → Outcome A
-After earlier outcome = asked_of (said_of_image earlier) (λ accepted. outcome)
-
-after_both : {A B : Type 0} (earlier : Answer) (outcome : Outcome A) (rest : A → Outcome B)
-    → After earlier (asked_of outcome rest) ≡ asked_of (After earlier outcome) rest
-after_both Accepted outcome rest = refl
-after_both (Refused r p) outcome rest = refl
-
-after_said : {A B : Type 0} (answer : Answer) (a : A) (rest : A → Outcome B)
-    → asked_of (said_with answer a) rest ≡ After answer (rest a)
-after_said Accepted a rest = refl
-after_said (Refused r p) a rest = refl
+  pub step_off : {n p : ℕ} → refuses n p ≡ field w number test image' at'
+      → asked_of (field w number test' image at) rest ≡ refuses n p
+  step_off said = rw (← same, ← of_image, ← of_place, ← said)
 
 -- what was said of a field under one test is said of it under the same test, written otherwise
 pub by_test : (w number : ℕ) (image : List ℕ) (at : ℕ) {test test' : ℕ → Bool} {outcome : Outcome (Taken ℕ)}
     → test ≡ test' → outcome ≡ field w number test image at → outcome ≡ field w number test' image at
 by_test w number image at same said = said ∙ ap (λ test. field w number test image at) same
 
--- a field was read after an answer: what follows the field follows the field's own answer
-pub field_after : {B : Type 0} (earlier : Answer) (g : Got) (w number : ℕ) (image : List ℕ) (at : ℕ)
-    {test test' : ℕ → Bool} (rest : Taken ℕ → Outcome B)
-    → test ≡ test' → got g (at + w) ≡ After earlier (field w number test image at)
-    → After earlier (asked_of (field w number test' image at) rest)
-    ≡ After g.answer (rest (record { value = g.value; next = at + w }))
-field_after earlier g w number image at rest same said =
-    after_both earlier _ rest
-    ∙ ap (λ outcome. asked_of outcome rest)
-    (ap (λ test. After earlier (field w number test image at)) (sym same) ∙ sym said)
-    ∙ after_said g.answer _ rest
-
--- the answer of the last field is the answer of all
-pub last_after : {A : Type 0} (answer : Answer) (a : A) → After answer (gives a) ≡ said_with answer a
-last_after Accepted a = refl
-last_after (Refused r p) a = refl
+-- what was taken, with its next bit written otherwise
+pub gives_to : {A : Type 0} (a : A) {n m : ℕ} → n ≡ m
+    → ◌≡◌ {A = Outcome (Taken A)} (gives (record { value = a; next = n })) (gives (record { value = a; next = m }))
+gives_to a same = ap (λ k. gives (record { value = a; next = k })) same
 
 range_zero : (v : ℕ) → in_range 0 1 v ≡ eqb v 0
 range_zero zero = refl

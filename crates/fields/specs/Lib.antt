@@ -1,2 +1,2 @@
 -- Definitions of this crate.
-pub mod GotField
+pub mod TakenTo

@@ -1,78 +1,49 @@
 // A field taken and checked: "each is read whole and then checked" (document 01, Numbers that say no).
 #![tactic(auto)]
 
-ghost use Rattle.std.specs.Prelude.{◌≡◌, ◌+◌, min};
-ghost use Rattle.outcomes.specs.Outcome.{asked_of};
+ghost use Rattle.std.specs.Prelude.{◌≡◌, ◌+◌, min, IfOk};
+ghost use Rattle.bits.specs.Found.{found_at};
 ghost use Rattle.taking.specs.Reading.{field};
-ghost use Rattle.table.specs.Refusals.{number_of, said_of_image};
-ghost use Rattle.fields.specs.GotField.{in_range, GotField};
+ghost use Rattle.table.specs.Refusals.{number_of, said_of};
+ghost use Rattle.reader.specs.Places.{place_after};
+ghost use Rattle.fields.specs.TakenTo.{in_range, taken_to};
 
-use bits::Found;
-use table::{Answer, Refusal};
+use reader::FieldReader;
+use std::ops::Range;
+use table::{Refusal, Refused};
 
-// What taking a field gives: its answer and, beside it, the value; of a refused one the value is 0.
-#[derive(Clone, Copy)]
-pub struct Got {
-    pub answer: Answer,
-    pub value: u32,
+// The next field, of `width` bits, "read whole"; the reader then stands after it. A width above 32 is taken for 32, here
+// and below.
+pub fn whole(reader: &mut FieldReader<'_>, width: usize) -> Result<u32, Refused>
+    ensures found { said_of result ≡ found_at reader.old.image.now reader.old.at (min width 32) }
+    ensures on { IfOk result (λ value. reader.new.at ≡ place_after reader.old.at (min width 32)) }
+    ensures image { reader.new.image ≡ reader.old.image }
+{
+    let place = reader.place();
+    reader.take(width).ok_or(Refused {
+        refusal: Refusal::Ends,
+        place,
+    })
 }
 
-// The field of `width` bits at bit `at`, which has to be at least `least` and below `bound`. A width above 32 is taken
-// for 32.
+// The next field, "and then checked": its value has to lie in the range.
 pub fn ranged(
-    image: &[u8],
-    at: usize,
+    reader: &mut FieldReader<'_>,
     width: usize,
-    least: u32,
-    bound: u32,
+    range: Range<u32>,
     refusal: Refusal,
-) -> Got
-    ensures { GotField
-        (field (min width 32) (number_of refusal) (in_range least bound) image.now at)
-        (at + min width 32) result }
+) -> Result<u32, Refused>
+    ensures taken { taken_to (reader.old.at + min width 32) result
+        ≡ field (min width 32) (number_of refusal) (in_range range.start range.end) reader.old.image.now
+        reader.old.at }
+    ensures on { IfOk result (λ value. reader.new.at ≡ place_after reader.old.at (min width 32)) }
+    ensures image { reader.new.image ≡ reader.old.image }
 {
-    let found = reader::next_field(image, at, width);
-    let Found::Value(value) = found else {
-        return Got {
-            answer: Answer::Refused {
-                refusal: Refusal::Ends,
-                place: at,
-            },
-            value: 0,
-        };
-    };
-    if least <= value {
-        if value < bound {
-            return Got {
-                answer: Answer::Accepted,
-                value,
-            };
-        }
+    let place = reader.place();
+    let value = whole(reader, width)?;
+    if range.contains(&value) {
+        Ok(value)
+    } else {
+        Err(Refused { refusal, place })
     }
-    Got {
-        answer: Answer::Refused { refusal, place: at },
-        value: 0,
-    }
-}
-
-// The same, after another field: where that one was refused, its refusal is handed on and no field is taken.
-pub fn ranged_after(
-    earlier: Got,
-    image: &[u8],
-    at: usize,
-    width: usize,
-    least: u32,
-    bound: u32,
-    refusal: Refusal,
-) -> Got
-    ensures { GotField
-        (asked_of (said_of_image earlier.answer) (λ accepted.
-        field (min width 32) (number_of refusal) (in_range least bound) image.now at))
-        (at + min width 32) result }
-{
-    let answer = earlier.answer;
-    let Answer::Accepted = answer else {
-        return Got { answer, value: 0 };
-    };
-    ranged(image, at, width, least, bound, refusal)
 }

@@ -8,7 +8,8 @@ use std::io;
 use std::io::Read;
 
 // Reads until the buffer is full or the input ends; how many bytes were read. They stand in the buffer from its first one
-// on. A read that fails is handed on.
+// on. A read that fails is handed on. The loop counts by hand, since each read chooses how much it gives; `read_to_end`
+// wants a heap.
 pub fn fill_from<R: Read>(from: &mut R, buffer: &mut [u8]) -> io::Result<usize>
     ensures same_length { length buffer.new ≡ length buffer.old }
     ensures within { IfOk result (λ count. count ≤ length buffer.new) }

@@ -7,40 +7,27 @@ ghost use Rattle.first_line.specs.FirstLine.{said_of_hyperperiod, hyperperiod};
 ghost use Rattle.times.specs.Rounds.{within_limit};
 ghost use Rattle.table.specs.Table.{hyperperiod_of};
 
-use table::{Answer, Refusal, Table};
-use times::rounds::Round;
-
-// The hyperperiod H of an image's table, in ticks.
-#[derive(Drop)]
-pub enum HyperperiodAnswer {
-    Hyperperiod { ticks: u32 },
-    Refused { refusal: Refusal, place: usize },
-}
+use images::read_table;
+use table::{Refusal, Refused, Table};
 
 // The hyperperiod of a table's tasks, or 10.
-fn round_of(table: Table) -> HyperperiodAnswer
-    ensures { said_of_hyperperiod result ≡ within_limit (hyperperiod_of table) }
+fn round_of(table: &Table) -> Result<u32, Refused>
+    ensures { said_of_hyperperiod result ≡ within_limit (hyperperiod_of table.now) }
 {
-    let period = table.period;
-    let round = times::rounds::hyperperiod(period, table.tasks);
-    let Round::Within(ticks) = round else {
-        return HyperperiodAnswer::Refused {
-            refusal: Refusal::Hyperperiod,
-            place: 0,
-        };
-    };
-    HyperperiodAnswer::Hyperperiod { ticks }
+    table.hyperperiod().ok_or(Refused {
+        refusal: Refusal::Hyperperiod,
+        place: 0,
+    })
 }
 
-// The hyperperiod H, asked of any bytes. The image's own refusal is handed on.
-pub fn hyperperiod(image: &[u8]) -> HyperperiodAnswer
+// The hyperperiod H in ticks, asked of any bytes. The image's own refusal is handed on (document 01, Language form for each
+// place: "each question takes the image's answer apart by let .. else and hands the refusal on").
+pub fn hyperperiod(image: &[u8]) -> Result<u32, Refused>
     ensures { said_of_hyperperiod result ≡ hyperperiod image.now }
 {
-    let read = images::read_table(image);
-    let answer = read.answer;
-    let Answer::Refused { refusal, place } = answer else {
-        let table = read.table;
-        return round_of(table);
+    let read = read_table(image);
+    let Err(refused) = read.answer else {
+        return round_of(&read.table);
     };
-    HyperperiodAnswer::Refused { refusal, place }
+    Err(refused)
 }

@@ -1,9 +1,10 @@
 -- Laws of the crate, for the functions here and for the crates above.
+mod AllBack
 pub mod Backwards
 pub mod Chains
-mod Divided
+pub mod Each
 pub mod Ends
-pub mod Fours
 mod GoneBack
+pub mod Paces
 pub mod Starts
 pub mod Tasks

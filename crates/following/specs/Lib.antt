@@ -1,3 +1,2 @@
 -- Definitions of this crate.
 pub mod Following
-pub mod Fours

@@ -1,3 +1,2 @@
 -- Laws of this crate.
 pub mod CopiesPut
-pub mod ReadersPut

@@ -2,3 +2,4 @@
 mod Counted
 pub mod Gathered
 pub mod ReadyTurn
+pub mod Walking

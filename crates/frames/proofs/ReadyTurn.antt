@@ -2,7 +2,7 @@
 -- with no copy in between. No contract cites this file. Assumes nothing.
 use Prim.Native.Nat.{ℕ, ◌+◌, ◌<◌, ◌^◌, min}
 use mathlib.Core.Bool.{true, false}
-use mathlib.Core.Path.{◌≡◌, refl, sym, ap, ap₂, ◌∙◌}
+use mathlib.Core.Path.{◌≡◌, sym, ap, ap₂, ◌∙◌}
 use mathlib.Core.List.{List, map, ◌++◌}
 use native.Mathlib.Omega.{arith}
 use native.Mathlib.Nat.{mod-lt}
@@ -24,44 +24,46 @@ use Rattle.counting.proofs.Between.{turn, writes_next, reads_next}
 use Rattle.counting.proofs.DueMasks.{due}
 use Rattle.counting.proofs.LabelsDue.{holds_due}
 use Rattle.counting.proofs.ReadsMany.{reads_counted}
+use Rattle.label_masks.specs.declared.LabelMasks.{LabelMasks}
 use Rattle.frames.specs.Counts.{Right}
-use Rattle.frames.specs.Ready.{GoesOver, Ready}
+use Rattle.frames.specs.Ready.{MasksOf, Ready}
 
 -- the next instant, by the counters of both kinds
 abbrev pub next_of : (periods : List ℕ) (t : ℕ) (publishing reading : List ℕ) → ℕ
 next_of periods t publishing reading = min (next_due false periods t publishing) (next_due true periods t reading)
 
-pub record ReadyTurn (table : Table) (core t : ℕ) (periods written read publishing reading : List ℕ) : Type 0 where
-  pub turn : Turn table core t (next_of periods t publishing reading)
-  pub copies : writes_in table.writer (labels_due t written read publishing)
-      ++ reads_in table.writer table.readers (masks_due t reading) (labels_due t written read reading)
+pub record ReadyTurn (table : Table) (core t : ℕ) (masks : LabelMasks) (publishing reading : List ℕ) : Type 0 where
+  pub turn : Turn table core t (next_of table.period t publishing reading)
+  pub copies : writes_in table.writer (labels_due t masks.written masks.read publishing)
+      ++ reads_in table.writer table.readers (masks_due t reading) (labels_due t masks.written masks.read reading)
       ≡ copies_at table core t
-  pub many : labels_due t written read publishing < 2 ^ 64
-      → ones (labels_due t written read publishing) + count_due t written read reading ≡ length (copies_at table core t)
-  pub ready : Ready table core (next_of periods t publishing reading) (map (stepped false periods t) publishing)
-      (map (stepped true periods t) reading)
+  pub many : labels_due t masks.written masks.read publishing < 2 ^ 64
+      → ones (labels_due t masks.written masks.read publishing) + count_due t masks.written masks.read reading
+      ≡ length (copies_at table core t)
+  pub ready : Ready table core (next_of table.period t publishing reading)
+      (map (stepped false table.period t) publishing) (map (stepped true table.period t) reading)
 
 module _ (table : Table) (core t : ℕ) (publishing reading : List ℕ) (right : Right table)
     (inside : t < hyperperiod_of table) (ready : Ready table core t publishing reading)
-    {written read : List ℕ} (over : GoesOver table table.period written read)
+    {masks : LabelMasks} (over : MasksOf table masks)
   where
     abbrev whole : Whole
     whole = record { table = table; rows = right.rows }
 
     -- the labels of the counters that are due
     labels_due_lem : (counters : List ℕ) → HoldsDue table.labels table.writer table.readers (masks_due t counters)
-        (labels_due t written read counters)
+        (labels_due t masks.written masks.read counters)
     unfolding reads
     labels_due_lem counters =
-        holds_due table.labels table.tasks table.writer table.readers written read over.of_writers
+        holds_due table.labels table.tasks table.writer table.readers masks.written masks.read over.of_writers
         over.of_readers (λ l r known marked. (right.meets.reader l r known marked).0) t counters
 
-    few_common : (counter : ℕ) → common_labels written read counter < 2 ^ 64
+    few_common : (counter : ℕ) → common_labels masks.written masks.read counter < 2 ^ 64
     unfolding common_labels
     few_common counter =
         omega (
           arith,
-          and_le_l (get_or written (writer_in counter) 0) (get_or read (reader_in counter) 0),
+          and_le_l (get_or masks.written (writer_in counter) 0) (get_or masks.read (reader_in counter) 0),
           over.of_writers.few (writer_in counter) (mod-lt _ (lit< tt)),
         )
 
@@ -72,16 +74,16 @@ module _ (table : Table) (core t : ℕ) (publishing reading : List ℕ) (right :
         (due whole right.meets right.sound core t (omega arith) ready.publishing_counts ready.reading_counts)
 
     abbrev writes : List ℕ → ℕ
-    writes masks = length (writes_due table.writer table.readers masks (min table.labels 64))
+    writes due_masks = length (writes_due table.writer table.readers due_masks (min table.labels 64))
 
-    own_turn : ReadyTurn table core t table.period written read publishing reading
+    pub ready_turn : ReadyTurn table core t masks publishing reading
     unfolding copies_due
-    own_turn =
+    ready_turn =
         let rules = right.meets in
         let sound = right.sound in
         let published = ready.publishing_counts in
         let served = ready.reading_counts in
-        let many_reads = reads_counted whole rules sound core t (omega arith) served written read over.of_writers
+        let many_reads = reads_counted whole rules sound core t (omega arith) served masks.written masks.read over.of_writers
         over.of_readers few_common in
         record {
           turn = turn whole rules sound core inside published served;
@@ -97,14 +99,3 @@ module _ (table : Table) (core t : ℕ) (publishing reading : List ℕ) (right :
             reading_counts = reads_next whole rules sound core inside published served;
           };
         }
-
--- over the arrays of the table
-pub ready_turn : (table : Table) (core t : ℕ) (publishing reading : List ℕ) → Right table → t < hyperperiod_of table
-    → Ready table core t publishing reading → {periods written read : List ℕ} → GoesOver table periods written read
-    → ReadyTurn table core t periods written read publishing reading
-ready_turn table core t publishing reading right inside ready over =
-    rw over.periods_same (own_turn table core t publishing reading right inside ready (record {
-      periods_same = refl;
-      of_writers = over.of_writers;
-      of_readers = over.of_readers;
-    }))

@@ -1,3 +1,4 @@
 -- Definitions of this crate.
 pub mod Counts
 pub mod Ready
+pub mod Walk

@@ -4,6 +4,8 @@ ghost use Rattle.std.specs.Int.Count.{ones};
 ghost use Rattle.counters.specs.Advanced.{stepped, masks_due, labels_due, count_due, next_due};
 
 use counters::{advance_reads, advance_writes, how_many};
+use label_masks::LabelMasks;
+use table::Table;
 
 // An instant: of each writer the readers that are served, the labels that are written and those that are read, how many
 // copies there are, and the next instant at which a counter is due.
@@ -16,44 +18,36 @@ pub struct Instant {
     pub next: u32,
 }
 
-// The earlier of two ticks.
-fn earlier(a: u32, b: u32) -> u32
-    ensures { result ≡ min a b }
-{
-    if a < b { a } else { b }
-}
-
 // What is due at tick t, by the labels that each task writes and reads; each counter of that tick goes on.
 pub fn instant_at(
     t: u32,
-    periods: &[u32; 32],
-    written: &[u64; 32],
-    read: &[u64; 32],
+    table: &Table,
+    masks: &LabelMasks,
     publishing: &mut [u32],
     reading: &mut [u32],
 ) -> Instant
     requires { length reading.old ≤ 1024 }
     ensures due { result ≡ record {
       serves = masks_due t reading.old;
-      written = labels_due t written.now read.now publishing.old;
-      read = labels_due t written.now read.now reading.old;
-      copies = ones (labels_due t written.now read.now publishing.old)
-          + count_due t written.now read.now reading.old;
-      next = min (next_due false periods.now t publishing.old)
-          (next_due true periods.now t reading.old);
+      written = labels_due t masks.now.written masks.now.read publishing.old;
+      read = labels_due t masks.now.written masks.now.read reading.old;
+      copies = ones (labels_due t masks.now.written masks.now.read publishing.old)
+          + count_due t masks.now.written masks.now.read reading.old;
+      next = min (next_due false table.now.period t publishing.old)
+          (next_due true table.now.period t reading.old);
     } }
-    ensures gone { (publishing.new ≡ map (stepped false periods.now t) publishing.old)
-        × (reading.new ≡ map (stepped true periods.now t) reading.old) }
+    ensures gone { (publishing.new ≡ map (stepped false table.now.period t) publishing.old)
+        × (reading.new ≡ map (stepped true table.now.period t) reading.old) }
     ensures few { (result.copies ≤ 65600) × (result.written < 2 ^ 64) }
 {
-    let writes = advance_writes(publishing, t, periods, written, read);
-    let reads = advance_reads(reading, t, periods, written, read);
+    let writes = advance_writes(publishing, t, table, masks);
+    let reads = advance_reads(reading, t, table, masks);
     let serves = reads.serves;
     Instant {
         serves,
         written: writes.labels,
         read: reads.labels,
         copies: how_many(writes.labels) + reads.count,
-        next: earlier(writes.next, reads.next),
+        next: writes.next.min(reads.next),
     }
 }

@@ -1,5 +1,5 @@
 -- Laws of the definitions.
 pub mod Codes
 pub mod InArray
-pub mod Passed
+pub mod MetTasks
 pub mod Walk

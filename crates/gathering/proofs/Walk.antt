@@ -1,28 +1,15 @@
--- The pairs that a core counts: one, and those of the first writers. Assumes nothing.
+-- The pairs that a core counts, of the first writers. Assumes nothing.
 use Prim.Native.Nat.{ℕ, ◌+◌, ◌<◌, ◌≤◌}
 use mathlib.Core.Path.{◌≡◌, refl, sym, ap}
 use mathlib.Core.Bool.{Bool, false}
-use mathlib.Core.List.{List, [], ◌∷◌, ◌++◌}
+use mathlib.Core.List.{List, [], ◌++◌}
 use native.Mathlib.Numerals.{add-one}
 use native.Mathlib.Omega.{arith}
-use borrow.Author.Tests.{eq-eqb, ne_eqb}
 use lib.ListN.{get_or}
 use Rattle.lists.specs.Lists.{each_below, each_of, only_if}
 use Rattle.lists.proofs.Below.{each_below_less}
 use Rattle.table.specs.Table.{marks}
-use Rattle.gathering.specs.Pairs.{code_of, own_task, pair_counted, tasks_in, pairs_with, pairs_below, pairs_of}
-
-module _ (reads : Bool) (core : ℕ) (cores : List ℕ) (w : ℕ) where
-  -- one pair
-  pub pair_on_lem : (r own : ℕ) → own ≡ own_task reads w r → get_or cores own 0 ≡ core
-      → pair_counted reads core cores w r ≡ code_of w r ∷ []
-  unfolding pair_counted
-  pair_on_lem r own e on = rw (← e, eq-eqb _ _ on)
-
-  pub pair_off : (r own : ℕ) → own ≡ own_task reads w r → ¬ (get_or cores own 0 ≡ core)
-      → pair_counted reads core cores w r ≡ []
-  unfolding pair_counted
-  pair_off r own e off = rw (← e, ne_eqb _ _ off)
+use Rattle.gathering.specs.Pairs.{pair_counted, tasks_in, pairs_with, pairs_below, pairs_of}
 
 -- a mask that marks nobody
 nobody : (mask : ℕ) → ((r : ℕ) → marks mask r ≡ false) → tasks_in mask ≡ []

@@ -1,4 +1,5 @@
 -- Definitions of this crate.
 pub mod Counters
+pub mod Kinds
 pub mod Pairs
 pub mod Stored

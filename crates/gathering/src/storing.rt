@@ -1,21 +1,29 @@
-// Counters are stored one after the other, for the pairs whose own task is on the core.
-ghost use Rattle.std.specs.Prelude.{◌≡◌, ◌+◌, ◌<◌, ◌≤◌, set};
+// Counters are stored one after the other, for the pairs whose own task is on the core. How many they are goes beside the
+// lent slice, since the count goes on past its end.
+ghost use Rattle.std.specs.Prelude.{◌≡◌, ◌+◌, ◌<◌, ◌≤◌, eqb, get_or, set};
+ghost use Rattle.gathering.specs.Kinds.{reads};
 ghost use Rattle.gathering.specs.Pairs.{own_task, pair_counted, pairs_with};
 ghost use Rattle.gathering.specs.Counters.{counter_of};
 ghost use Rattle.gathering.specs.Stored.{Adds};
 
-use crate::counter_of;
-use readers::next_reader;
+use crate::{Kind, counter_of};
+use readers::readers;
+use table::Table;
 
-// The task to whose core a point belongs.
-fn own_task(reads: bool, w: u32, r: u32) -> u32
-    requires { (w < 32) × (r < 32) }
-    ensures { (result ≡ own_task reads w r) × (result < 32) }
+// The core is that of the task to which a point belongs.
+fn on_core(kind: Kind, core: u32, table: &Table, w: u32, r: u32) -> bool
+    requires writer { w < 32 }
+    requires reader { r < 32 }
+    ensures { result ≡ eqb (get_or table.now.core (own_task (reads kind) w r) 0) core }
 {
-    if reads { r } else { w }
+    let own = match kind {
+        Kind::Publishing => w,
+        Kind::Reading => r,
+    };
+    table.core[own as usize] == core
 }
 
-// A counter at its place, where there is room for it.
+// A counter at its place, where there is room for it. (By `get_mut` a proof would not know the entry afterwards.)
 fn store(counters: &mut [u32], place: usize, counter: u32)
     ensures { counters.new ≡ set counters.old place counter }
 {
@@ -26,47 +34,48 @@ fn store(counters: &mut [u32], place: usize, counter: u32)
 
 // The counter of a pair, where its own task is on the core. At tick 0 each pair has a point.
 fn store_pair(
-    reads: bool,
+    kind: Kind,
     core: u32,
-    cores: &[u32; 32],
+    table: &Table,
     w: u32,
     r: u32,
     counters: &mut [u32],
     count: usize,
 ) -> usize
-    requires { (w < 32) × (r < 32) × (count < 1024) }
-    ensures adds { Adds (counter_of 0) (pair_counted reads core cores.now w r) count
+    requires writer { w < 32 }
+    requires reader { r < 32 }
+    requires room { count < 1024 }
+    ensures adds { Adds (counter_of 0) (pair_counted (reads kind) core table.now.core w r) count
         counters.old result counters.new }
     ensures few { result ≤ count + 1 }
 {
-    let own = own_task(reads, w, r) as usize;
-    if cores[own] == core {
+    if on_core(kind, core, table, w, r) {
         store(counters, count, counter_of(0, w * 32 + r));
-        return count + 1;
+        count + 1
+    } else {
+        count
     }
-    count
 }
 
 // The counters of one writer with the tasks of a mask, by rising task.
 pub(crate) fn store_pairs(
-    reads: bool,
+    kind: Kind,
     core: u32,
-    cores: &[u32; 32],
+    table: &Table,
     w: u32,
     mask: u32,
     counters: &mut [u32],
     count: usize,
 ) -> usize
-    requires { (w < 32) × (count ≤ 992) }
-    ensures adds { Adds (counter_of 0) (pairs_with reads core cores.now w mask) count
+    requires writer { w < 32 }
+    requires room { count ≤ 992 }
+    ensures adds { Adds (counter_of 0) (pairs_with (reads kind) core table.now.core w mask) count
         counters.old result counters.new }
     ensures few { result ≤ count + 32 }
 {
     let mut more = count;
-    let mut r = next_reader(mask, 0);
-    while r < 32 {
-        more = store_pair(reads, core, cores, w, r, counters, more);
-        r = next_reader(mask, r + 1);
+    for r in readers(mask) {
+        more = store_pair(kind, core, table, w, r, counters, more);
     }
     more
 }

@@ -1,12 +1,13 @@
 // "Each label: writer 5, readers 32" (document 01, Table image).
-ghost use Rattle.std.specs.Prelude.{◌≡◌, ◌+◌, ◌≤◌, ◌<◌};
+ghost use Rattle.std.specs.Prelude.{◌≡◌, ◌+◌, ◌≤◌, ◌<◌, IfOk};
 ghost use Rattle.table.specs.Image.{label_bits, label_fields, right_readers};
-ghost use Rattle.image_parts.specs.Parts.{label_read};
+ghost use Rattle.fields.specs.TakenTo.{taken_as};
+ghost use Rattle.image_parts.specs.Parts.{label_of};
 
-use crate::LabelRead;
-use bits::Found;
-use fields::ranged;
-use table::{Answer, Refusal};
+use crate::Label;
+use fields::{ranged, whole};
+use reader::FieldReader;
+use table::{Refusal, Refused};
 
 // A readers field marks only tasks of the table, and not the writer. The bits past the last task's are what is left of
 // the field, shifted by as many places as there are tasks, within 32 bits.
@@ -23,44 +24,22 @@ fn right_readers(tasks: u32, writer: u32, readers: u32) -> bool
 }
 
 // One label: its writer and its readers.
-pub fn read_label(image: &[u8], at: usize, tasks: u32) -> LabelRead
-    requires { (at ≤ 65535) × (tasks ≤ 32) }
-    ensures { label_read result (at + label_bits) ≡ label_fields tasks image.now at }
+pub fn read_label(reader: &mut FieldReader<'_>, tasks: u32) -> Result<Label, Refused>
+    requires { (reader.old.at ≤ 65535) × (tasks ≤ 32) }
+    ensures taken { taken_as label_of (reader.old.at + label_bits) result
+        ≡ label_fields tasks reader.old.image.now reader.old.at }
+    ensures on { IfOk result (λ label. reader.new.at ≡ reader.old.at + label_bits) }
+    ensures image { reader.new.image ≡ reader.old.image }
 {
-    let writer = ranged(image, at, 5, 0, tasks, Refusal::Writer);
-    let answer = writer.answer;
-    let Answer::Accepted = answer else {
-        return LabelRead {
-            answer,
-            writer: 0,
-            readers: 0,
-        };
-    };
-    let found = reader::next_field(image, at + 5, 32);
-    let Found::Value(readers) = found else {
-        return LabelRead {
-            answer: Answer::Refused {
-                refusal: Refusal::Ends,
-                place: at + 5,
-            },
-            writer: 0,
-            readers: 0,
-        };
-    };
-    if right_readers(tasks, writer.value, readers) {
-        LabelRead {
-            answer: Answer::Accepted,
-            writer: writer.value,
-            readers,
-        }
+    let writer = ranged(reader, 5, 0..tasks, Refusal::Writer)?;
+    let place = reader.place(); // where the readers start
+    let readers = whole(reader, 32)?;
+    if right_readers(tasks, writer, readers) {
+        Ok(Label { writer, readers })
     } else {
-        LabelRead {
-            answer: Answer::Refused {
-                refusal: Refusal::Reader,
-                place: at + 5, // where the readers start
-            },
-            writer: 0,
-            readers: 0,
-        }
+        Err(Refused {
+            refusal: Refusal::Reader,
+            place,
+        })
     }
 }

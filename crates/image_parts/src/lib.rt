@@ -1,18 +1,14 @@
-// One part of an image: its head, one task or one label (document 01, Table image: "Part"). Each answers and, beside the
-// answer, gives what was read; of a refused part what stands beside the answer says nothing. What each stands for:
-// specs/Parts.antt.
+// One part of an image: its head, one task or one label (document 01, Table image: "Part"), read from where a reader
+// stands. What each stands for: specs/Parts.antt.
 #![tactic(auto)]
-
-use table::Answer;
 
 pub mod heads;
 pub mod labels;
 pub mod tasks;
 
 // The counts of the head.
-#[derive(Drop)]
-pub struct HeadRead {
-    pub answer: Answer,
+#[derive(Clone, Copy)]
+pub struct Head {
     pub cores: usize,
     pub tasks: usize,
     pub labels: usize,
@@ -20,17 +16,15 @@ pub struct HeadRead {
 }
 
 // One task.
-#[derive(Drop)]
-pub struct TaskRead {
-    pub answer: Answer,
+#[derive(Clone, Copy)]
+pub struct Task {
     pub core: u32,
     pub period: u32,
 }
 
 // One label.
-#[derive(Drop)]
-pub struct LabelRead {
-    pub answer: Answer,
+#[derive(Clone, Copy)]
+pub struct Label {
     pub writer: u32,
     pub readers: u32,
 }

@@ -1,5 +1,4 @@
 -- Laws of the reader, for the crates above and for the functions here.
 pub mod Asked
 pub mod Determined
-pub mod TablesShown
 pub mod WholeImage

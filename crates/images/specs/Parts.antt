@@ -1,19 +1,14 @@
 -- What the parts of the reader answer, in document 01's numbers. The reader's own contract does not cite this file.
 -- Assumes nothing.
-use Rattle.std.specs.Prelude.{ℕ, ◌≡◌, List}
-use Rattle.table.specs.Refusals.{said_with}
-use Rattle.table.specs.Table.{Rows}
+use Rattle.std.specs.Prelude.{ℕ, ◌≡◌, List, Result, IfOk}
+use Rattle.outcomes.specs.Outcome.{gives, asked_of}
+use Rattle.table.specs.Refusals.{said_of}
+use Rattle.table.specs.Table.{Rows, hyperperiod_of}
 use Rattle.table.specs.Image.{read_image}
-use Rattle.table.specs.Shown.{shown_of}
-use Rattle.table.specs.declared.Answer.{Answer}
+use Rattle.table.specs.declared.Refused.{Refused}
 use Rattle.table.specs.declared.Table.{Table}
-use Rattle.images.specs.declared.TableRead.{TableRead}
 
--- the whole image: its table and rows, or its refusal
-abbrev pub WholeRead : (image : List ℕ) (answer : Answer) (table : Table) (rows : Rows) → Type 0
-WholeRead image answer table rows = said_with answer (record { table = table; rows = rows }) ≡ read_image image
-
--- the same, with a table that has nothing in it where the image is refused
-pub record AllRead (image : List ℕ) (r : TableRead) (rows : Rows) : Type 0 where
-  pub said : WholeRead image r.answer r.table rows
-  pub shown : r.table ≡ (shown_of image).table
+-- the whole image: its table and rows, with its hyperperiod, or its refusal
+pub record WholeRead (image : List ℕ) (r : Result ℕ Refused) (table : Table) (rows : Rows) : Type 0 where
+  pub said : asked_of (said_of r) (λ round. gives (record { table = table; rows = rows })) ≡ read_image image
+  pub round : IfOk r (λ round. round ≡ hyperperiod_of table)

@@ -6,17 +6,17 @@ ghost use Rattle.std.specs.Prelude.{◌≡◌};
 ghost use Rattle.table.specs.Shown.{shown_of};
 ghost use Rattle.images.specs.TableShown.{TableShown};
 
-use table::{Answer, Table};
+use table::{Refused, Table};
 
-pub mod tables;
 pub mod wholes;
 
-use tables::read_all;
+use wholes::read_into;
 
 // What reading an image shows: its answer and, beside it, its table; of a refused image, the table with nothing in it.
-#[derive(Drop)]
+// Document 01, Language form for each place: "the table stands beside that answer in a struct, not in a case".
+#[derive(Clone, Copy)]
 pub struct TableRead {
-    pub answer: Answer,
+    pub answer: Result<(), Refused>,
     pub table: Table,
 }
 
@@ -24,19 +24,28 @@ pub struct TableRead {
 pub fn read_table(image: &[u8]) -> TableRead
     ensures { TableShown image.now result }
 {
-    let mut rows = [[0u32; 8]; 16];
-    read_all(image, &mut rows)
+    let mut table = Table::empty();
+    let mut rows = [[0; 8]; 16];
+    match read_into(image, &mut table, &mut rows) {
+        Ok(_) => TableRead {
+            answer: Ok(()),
+            table,
+        },
+        Err(refused) => TableRead {
+            answer: Err(refused),
+            table: Table::empty(),
+        },
+    }
 }
 
 // The task numbers of an image's chains: sixteen rows of eight, by value. Of a refused image they are all 0.
 pub fn read_rows(image: &[u8]) -> [[u32; 8]; 16]
     ensures { result ≡ (shown_of image.now).rows }
 {
-    let mut taken = [[0u32; 8]; 16];
-    let read = read_all(image, &mut taken);
-    let answer = read.answer;
-    let Answer::Accepted = answer else {
-        return [[0u32; 8]; 16];
+    let mut beside = Table::empty();
+    let mut taken = [[0; 8]; 16];
+    let Ok(_) = read_into(image, &mut beside, &mut taken) else {
+        return [[0; 8]; 16];
     };
     taken
 }

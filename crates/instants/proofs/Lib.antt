@@ -1,7 +1,6 @@
 -- Laws of this crate.
 pub mod ByLabels
-pub mod LabelsPut
 pub mod NothingDue
+pub mod OfLabel
 pub mod OfTable
 pub mod Putting
-pub mod ReadersPut

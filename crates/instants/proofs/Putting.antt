@@ -7,12 +7,13 @@ use native.Mathlib.Omega.{arith}
 use lib.ListN.{length-append}
 use Rattle.lists.specs.Lists.{each_of}
 use Rattle.lists.proofs.Each.{each_of_append}
+use Rattle.masks.proofs.Rising.{each_more}
 use Rattle.bits.specs.Packing.{Field, bits, bits_of, bits_of_all}
 use Rattle.bits.proofs.ReadBack.{all_written_append}
 use Rattle.bits.proofs.WrittenParts.{written_joined}
 use Rattle.packing.specs.Inked.{Inked, Countable}
 use Rattle.packing.specs.declared.Pen.{Pen}
-use Rattle.copies.specs.Copies.{Copy, write}
+use Rattle.copies.specs.Copies.{Copy, read, write}
 use Rattle.copies.specs.Listing.{copy_fields}
 use Rattle.instants.specs.Puts.{Puts, PutsCopies}
 
@@ -54,7 +55,7 @@ one_field kind label task known few =
     (written_joined 1 11 kind (label * 32 + task) (omega arith)
     ∙ ap (λ l. bits_of 1 kind ++ l) (written_joined 6 5 label task few))
 
--- no copy, one write, and copies and then more of them
+-- no copy, one write or read, and copies and then more of them
 pub no_copy : {copies : List Copy} (bytes : List ℕ) (pen : Pen) → copies ≡ [] → PutsCopies bytes bytes pen pen copies
 unfolding each_of
 no_copy bytes pen none = rw none (puts_nothing bytes pen)
@@ -65,7 +66,19 @@ pub one_write : {copies : List Copy} {bytes after : List ℕ} {pen next : Pen} (
 unfolding each_of copy_fields
 one_write label writer one put = rw one put
 
+pub one_read : {bytes after : List ℕ} {pen next : Pen} (label reader : ℕ)
+    → Puts bytes after pen next (bits 1 1 ∷ bits 6 label ∷ bits 5 reader ∷ [])
+    → PutsCopies bytes after pen next (read label reader ∷ [])
+unfolding each_of copy_fields
+one_read label reader put = put
+
 pub copies_then : {bytes middle after : List ℕ} {pen next last : Pen} (copies more : List Copy)
     → PutsCopies bytes middle pen next copies → PutsCopies middle after next last more
     → PutsCopies bytes after pen last (copies ++ more)
 copies_then copies more first then = rw (each_of_append copy_fields copies more) (puts_then first then)
+
+-- of a loop over rising numbers, the copies that one number more has to add
+pub one_more_put : (adds : ℕ → List Copy) {bytes middle after : List ℕ} {pen next last : Pen} (met : List ℕ) (x : ℕ)
+    → PutsCopies bytes middle pen next (each_of met adds) → PutsCopies middle after next last (adds x)
+    → PutsCopies bytes after pen last (each_of (met ++ x ∷ []) adds)
+one_more_put adds met x before one = rw (each_more adds met x) (copies_then _ _ before one)

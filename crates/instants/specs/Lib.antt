@@ -1,3 +1,4 @@
 -- Definitions of this crate.
 pub mod Due
+pub mod Kinds
 pub mod Puts

@@ -2,7 +2,7 @@
 // are read, and of the readers that are served from each writer. What they are: specs/.
 #![tactic(auto)]
 
-ghost use Rattle.std.specs.Prelude.{◌≡◌, ◌++◌};
+ghost use Rattle.std.specs.Prelude.{◌++◌};
 ghost use Rattle.instants.specs.Due.{writes_in, reads_in};
 ghost use Rattle.instants.specs.Puts.{PutsCopies};
 
@@ -10,21 +10,21 @@ mod puts;
 
 use packing::Pen;
 use puts::{write_reads, write_writes};
+use table::Table;
 
 // The copies of an instant, put into lent bytes: the writes, then the reads.
 pub fn write_copies(
     bytes: &mut [u8],
     pen: Pen,
-    writer: &[u32; 64],
-    readers: &[u32; 64],
+    table: &Table,
     serves: &[u32; 32],
     written: u64,
     read: u64,
 ) -> Pen
     ensures { PutsCopies bytes.old bytes.new pen result
-        (writes_in writer.now written
-        ++ reads_in writer.now readers.now serves.now read) }
+        (writes_in table.now.writer written
+        ++ reads_in table.now.writer table.now.readers serves.now read) }
 {
-    let after = write_writes(bytes, pen, writer, written);
-    write_reads(bytes, after, writer, readers, serves, read)
+    let after = write_writes(bytes, pen, table, written);
+    write_reads(bytes, after, table, serves, read)
 }

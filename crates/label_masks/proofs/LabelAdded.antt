@@ -3,103 +3,94 @@ use Prim.Native.Nat.{ℕ, ◌+◌, ◌/◌, ◌^◌, ◌<◌, ◌≤◌, min}
 use mathlib.Core.Path.{◌≡◌, refl, sym, ap, ap₂, ◌∙◌}
 use mathlib.Core.Logic.{by_cases}
 use mathlib.Core.Bool.{Bool, true, false, ◌&&◌, ◌||◌, or-false, and-false}
-use mathlib.Core.List.{List}
-use native.Mathlib.Decide.{ℕ_discrete, dec_lt}
+use mathlib.Core.List.{List, [], ◌∷◌, ◌++◌}
+use native.Mathlib.Decide.{ℕ_discrete}
 use native.Mathlib.Omega.{arith}
 use borrow.Author.Tests.{eq-eqb, ne_eqb, lt-ltb, le-ltb}
 use lib.Bits.{bit_or}
 use lib.Dec.{eqb, ltb}
 use lib.ListN.{length, get_or, set, replicate, length-set}
 use lib.Seq.{get_or-set_same, get_or-set_other}
+use Rattle.lists.specs.Lists.{some_of}
+use Rattle.lists.proofs.SomeOf.{some_append}
 use Rattle.masks.specs.Masks.{holds}
 use Rattle.table.specs.Table.{marks}
-use Rattle.readers.specs.NextReader.{next_reader}
-use Rattle.readers.proofs.Walk.{Unmarked, next_from, none_between, Reached, reached_next}
 use Rattle.label_masks.specs.LabelMasks.{ReadLabels, LabelAdded}
 use Rattle.label_masks.proofs.Below.{below_same, none_below, same_labels, same_tasks}
 use Rattle.label_masks.proofs.OneMore.{with_label, no_masks}
 
+-- those of the readers met that are among the first tasks hold the label, too
+pub record AddedTo (label tasks : ℕ) (met before after : List ℕ) : Type 0 where
+  pub long : length after ≡ length before
+  pub has : (r l : ℕ) → r < 32 → holds 64 (get_or after r 0) l
+      ≡ (holds 64 (get_or before r 0) l || (eqb l label && (ltb r tasks && some_of (λ x. eqb x r) met)))
+
 -- the readers of one label
-module _ (label readers : ℕ) (before : List ℕ) where
-  no_reader : LabelAdded label 0 readers before before
-  no_reader = record {
+module _ (label tasks : ℕ) (before : List ℕ) where
+  -- first of all
+  pub added_none : AddedTo label tasks [] before before
+  unfolding some_of
+  added_none = record {
     long = refl;
     has = λ r l known.
-        sym (ap (λ b. holds 64 (get_or before r 0) l || (eqb l label && b)) (sym (none_below r (marks readers r)))
+        sym (ap (λ b. holds 64 (get_or before r 0) l || (eqb l label && b)) (and-false (ltb r tasks))
         ∙ ap (λ b. holds 64 (get_or before r 0) l || b) (and-false (eqb l label)) ∙ or-false _);
   }
 
-  -- on to a task, up to which none is marked
-  on_to : (from to : ℕ) → from ≤ to → Unmarked readers from to → {after : List ℕ} → LabelAdded label from readers before after
-      → LabelAdded label to readers before after
-  on_to from to late none more = record {
-    long = more.long;
+  module _ (met : List ℕ) (x : ℕ) where
+    -- a task is the one more, or among those met
+    or_one : (r : ℕ) → some_of (λ x. eqb x r) (met ++ x ∷ []) ≡ (some_of (λ x. eqb x r) met || eqb x r)
+    unfolding some_of
+    or_one r = some_append (λ x. eqb x r) met (x ∷ []) ∙ ap (λ b. some_of (λ x. eqb x r) met || b) (or-false (eqb x r))
+
+    -- a reader more
+    pub added_more : {after : List ℕ} → x < tasks → x < 32 → label < 64 → length after ≡ 32
+        → AddedTo label tasks met before after
+        → AddedTo label tasks (met ++ x ∷ []) before
+        (set after x (bit_or (get_or after x 0) (9223372036854775808 / 2 ^ label)))
+    added_more {after} first known few long added = record {
+      long = length-set after x _ ∙ added.long;
+      has = λ r l below.
+          by_cases (ℕ_discrete r x)
+          (λ same. rw (or_one r, same, get_or-set_same after x _ 0 (omega arith))
+          (with_label (get_or after x 0) label l few
+          ∙ rw (added.has x l known, lt-ltb x tasks first, eq-eqb x x refl)
+          (both (holds 64 (get_or before x 0) l) (eqb l label) (some_of (λ y. eqb y x) met))))
+          (λ other. rw (or_one r, get_or-set_other after x r _ 0 other, ne_eqb x r (λ equal. other (sym equal)))
+          (added.has r l below
+          ∙ ap (λ b. holds 64 (get_or before r 0) l || (eqb l label && (ltb r tasks && b))) (sym (or-false _))));
+    }
+      where
+        both : (held same met : Bool) → ((held || (same && met)) || same) ≡ (held || (same && (met || true)))
+        both true true met = refl
+        both true false met = refl
+        both false true true = refl
+        both false true false = refl
+        both false false met = refl
+
+    -- a reader that is none of the first tasks
+    pub added_past : {after : List ℕ} → tasks ≤ x → AddedTo label tasks met before after
+        → AddedTo label tasks (met ++ x ∷ []) before after
+    added_past {after} past added = record {
+      long = added.long;
+      has = λ r l below.
+          added.has r l below
+          ∙ ap (λ b. holds 64 (get_or before r 0) l || (eqb l label && b))
+          (by_cases (ℕ_discrete r x)
+          (λ same. rw (le-ltb r tasks (omega arith)))
+          (λ other. rw (or_one r, ne_eqb x r (λ equal. other (sym equal)))
+          (ap (λ b. ltb r tasks && b) (sym (or-false _)))));
+    }
+
+  -- all of them
+  pub added_all : (readers : ℕ) {after : List ℕ} (met : List ℕ) → AddedTo label tasks met before after
+      → ((r : ℕ) → r < 32 → some_of (λ x. eqb x r) met ≡ marks readers r) → LabelAdded label tasks readers before after
+  added_all readers met added all = record {
+    long = added.long;
     has = λ r l known.
-        more.has r l known
-        ∙ ap (λ b. holds 64 (get_or before r 0) l || (eqb l label && b))
-        (by_cases (dec_lt r from)
-        (λ less. rw (lt-ltb r from less, lt-ltb r to (omega arith)))
-        (λ past. by_cases (dec_lt r to)
-        (λ less. rw (none r (omega arith) less, and-false (ltb r from), and-false (ltb r to)))
-        (λ over. rw (le-ltb r from (omega arith), le-ltb r to (omega arith)))));
+        added.has r l known
+        ∙ ap (λ b. holds 64 (get_or before r 0) l || (eqb l label && (ltb r tasks && b))) (all r known);
   }
-
-  -- a reader more
-  one_more : (r : ℕ) → r < 32 → label < 64 → marks readers r ≡ true → {after : List ℕ} → length after ≡ 32
-      → LabelAdded label r readers before after
-      → LabelAdded label (r + 1) readers before (set after r (bit_or (get_or after r 0) (9223372036854775808 / 2 ^ label)))
-  one_more r below few marked {after} long more = record {
-    long = length-set after r _ ∙ more.long;
-    has = λ s l known.
-        by_cases (ℕ_discrete s r)
-        (λ same. rw (same, get_or-set_same after r _ 0 (omega arith))
-        (with_label (get_or after r 0) label l few
-        ∙ rw (more.has r l below, le-ltb r r (omega arith), lt-ltb r (r + 1) (omega arith), marked)
-        (both (holds 64 (get_or before r 0) l) (eqb l label))))
-        (λ other. rw (get_or-set_other after r s _ 0 other)
-        (more.has s l known
-        ∙ ap (λ b. holds 64 (get_or before s 0) l || (eqb l label && b)) (below_same r s (marks readers s) other)));
-  }
-    where
-      both : (held same : Bool) → ((held || (same && false)) || same) ≡ (held || (same && true))
-      both true true = refl
-      both true false = refl
-      both false true = refl
-      both false false = refl
-
-  -- the readers before r that are among the first tasks hold it, and r is reached
-  abbrev pub AddedTo : (tasks : ℕ) (after : List ℕ) (r : ℕ) → Type 0
-  AddedTo tasks after r = Reached readers (λ n. LabelAdded label (min n tasks) readers before after) r
-
-  module _ (tasks : ℕ) {after : List ℕ} where
-    -- the next reader is reached from any task
-    added_to : (from : ℕ) → from ≤ 32 → LabelAdded label (min from tasks) readers before after
-        → {r : ℕ} → r ≡ next_reader readers from → AddedTo tasks after r
-    added_to from few added is =
-        let next = next_from readers from few in
-        reached_next readers _ from
-        (on_to (min from tasks) (min (next_reader readers from) tasks) (omega arith)
-        (λ j late less. none_between readers from j (omega arith) (omega arith)) added) is
-
-  -- first of all
-  pub added_none : (tasks : ℕ) {r : ℕ} → r ≡ next_reader readers 0 → AddedTo tasks before r
-  added_none tasks is =
-      let none : min 0 tasks ≡ 0 = omega arith in added_to tasks 0 (omega arith) (rw none no_reader) is
-
-  module _ {tasks r : ℕ} {after : List ℕ} (added : AddedTo tasks after r) where
-    -- once one holds it, the one after it
-    pub added_more : {s : ℕ} → tasks ≤ 32 → length before ≡ 32 → r < tasks → label < 64 → s ≡ next_reader readers (r + 1)
-        → AddedTo tasks (set after r (bit_or (get_or after r 0) (9223372036854775808 / 2 ^ label))) s
-    added_more few long below known is =
-        let here : min r tasks ≡ r = omega arith in
-        let next : min (r + 1) tasks ≡ r + 1 = omega arith in
-        added_to tasks (r + 1) (omega arith)
-        (rw next (one_more r (omega arith) known (added.marked (omega arith)) (added.said.long ∙ long)
-        (rw here at added.said))) is
-
-    -- all of them hold it
-    pub added_all : tasks ≤ r → LabelAdded label tasks readers before after
-    added_all over = let all : min r tasks ≡ tasks = omega arith in rw all at added.said
 
 -- the readers of all labels
 module _ (readers : List ℕ) where

@@ -5,46 +5,60 @@
 ghost use Rattle.std.specs.Prelude.{◌≡◌, ◌<◌, ◌≤◌, length, replicate};
 ghost use Rattle.label_masks.specs.LabelMasks.{LabelAdded, ReadLabels, WrittenLabels};
 
-use lists::held;
-use readers::next_reader;
+use readers::readers;
+use table::Table;
 
-// Of each task the labels that it writes, in masks that hold nothing at first.
-pub fn written_labels(labels: usize, writer: &[u32; 64], masks: &mut [u64; 32])
-    requires { masks.old ≡ replicate 32 0 }
-    ensures { WrittenLabels labels writer.now masks.new }
+// Of each task the mask of the labels that it writes, and the mask of those that it reads.
+#[derive(Clone, Copy)]
+pub struct LabelMasks {
+    pub written: [u64; 32],
+    pub read: [u64; 32],
+}
+
+// The masks of a table's labels.
+pub fn label_masks(table: &Table) -> LabelMasks
+    ensures written { WrittenLabels table.now.labels table.now.writer result.written }
+    ensures read { ReadLabels table.now.labels table.now.tasks table.now.readers result.read }
 {
-    let count = held(labels, 64);
-    let mut l: usize = 0;
-    while l < count {
-        let w = (writer[l] % 32) as usize;
-        masks[w] = masks[w] | 9223372036854775808 >> l;
-        l += 1;
+    LabelMasks {
+        written: written_labels(table),
+        read: read_labels(table),
     }
+}
+
+// Of each task the labels that it writes.
+fn written_labels(table: &Table) -> [u64; 32]
+    ensures { WrittenLabels table.now.labels table.now.writer result }
+{
+    let mut masks = [0; 32];
+    for l in 0..table.labels.min(64) {
+        let w = table.writer[l] as usize % 32;
+        masks[w] |= 9223372036854775808 >> l;
+    }
+    masks
+}
+
+// Of each task the labels that it reads.
+fn read_labels(table: &Table) -> [u64; 32]
+    ensures { ReadLabels table.now.labels table.now.tasks table.now.readers result }
+{
+    let tasks = table.tasks.min(32);
+    let mut masks = [0; 32];
+    for l in 0..table.labels.min(64) {
+        read_by(l, tasks, table.readers[l], &mut masks);
+    }
+    masks
 }
 
 // One label more in the masks of those of the first tasks that read it, from reader to reader.
-fn read_by(label: u32, tasks: u32, readers: u32, masks: &mut [u64; 32])
+fn read_by(label: usize, tasks: usize, field: u32, masks: &mut [u64; 32])
     requires { (label < 64) × (tasks ≤ 32) × (length masks.old ≡ 32) }
-    ensures { LabelAdded label tasks readers masks.old masks.new }
+    ensures { LabelAdded label tasks field masks.old masks.new }
 {
-    let mut r = next_reader(readers, 0);
-    while r < tasks {
-        let i = r as usize;
-        masks[i] = masks[i] | 9223372036854775808 >> label;
-        r = next_reader(readers, r + 1);
-    }
-}
-
-// Of each task the labels that it reads, likewise.
-pub fn read_labels(labels: usize, tasks: usize, readers: &[u32; 64], masks: &mut [u64; 32])
-    requires { masks.old ≡ replicate 32 0 }
-    ensures { ReadLabels labels tasks readers.now masks.new }
-{
-    let count = held(labels, 64);
-    let all = held(tasks, 32) as u32;
-    let mut l: usize = 0;
-    while l < count {
-        read_by(l as u32, all, readers[l], masks);
-        l += 1;
+    for reader in readers(field) {
+        let r = reader as usize;
+        if r < tasks {
+            masks[r] |= 9223372036854775808 >> label;
+        }
     }
 }

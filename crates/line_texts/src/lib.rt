@@ -1,76 +1,71 @@
-// The lines of the text that have no copies, each put into lent bytes at a place; the answer is the next place.
+// The lines of the text that have no copies, each put into lent bytes where the text goes on.
 #![tactic(auto)]
 
 ghost use Rattle.std.specs.Prelude.{[], ◌∷◌, ◌++◌};
 ghost use Rattle.outcomes.specs.Outcome.{refuses};
 ghost use Rattle.printing.specs.Printed.{chain_text, text_of};
 ghost use Rattle.printing.specs.Words.{hyperperiod_word, core_word, named, newline, space};
-ghost use Rattle.texts.specs.Puts.{PutsText};
+ghost use Rattle.texts.specs.Puts.{Puts};
 
-use texts::{put_byte, put_named, put_number};
+use aged_chains::Ages;
+use texts::Text;
 
 // A word and a number, and the end of the line.
-fn put_line(bytes: &mut [u8], at: usize, word: &[u8], number: u64) -> usize
-    ensures { PutsText bytes.old bytes.new at result
-        (named word.now number ++ newline ∷ []) }
+fn put_line(text: &mut Text<'_>, word: &[u8], number: u64)
+    ensures { Puts text.old text.new (named word.now number ++ newline ∷ []) }
 {
-    let next = put_named(bytes, at, word, number);
-    put_byte(bytes, next, b'\n')
+    text.put_named(word, number);
+    text.put_byte(b'\n');
 }
 
 // The first line: the hyperperiod.
-pub fn put_hyperperiod(bytes: &mut [u8], at: usize, ticks: u32) -> usize
-    ensures { PutsText bytes.old bytes.new at result
-        (named hyperperiod_word ticks ++ newline ∷ []) }
+pub fn put_hyperperiod(text: &mut Text<'_>, ticks: u32)
+    ensures { Puts text.old text.new (named hyperperiod_word ticks ++ newline ∷ []) }
 {
-    put_line(bytes, at, b"hyperperiod", ticks as u64)
+    put_line(text, b"hyperperiod", u64::from(ticks));
 }
 
 // A core's own line, which stands before those of its frames.
-pub fn put_core(bytes: &mut [u8], at: usize, core: u32) -> usize
-    ensures { PutsText bytes.old bytes.new at result (named core_word core ++ newline ∷ []) }
+pub fn put_core(text: &mut Text<'_>, core: u32)
+    ensures { Puts text.old text.new (named core_word core ++ newline ∷ []) }
 {
-    put_line(bytes, at, b"core", core as u64)
+    put_line(text, b"core", u64::from(core));
 }
 
-// "one line, `refused`, a space, the number, a space, the place, and nothing else"
-pub fn put_refusal(bytes: &mut [u8], at: usize, number: u32, place: usize) -> usize
-    ensures { PutsText bytes.old bytes.new at result (text_of (refuses number place)) }
+// "one line, `refused`, a space, the number, a space, the place, and nothing else", of any number and place. (No `From`
+// makes a `u64` of a `usize`.)
+pub fn put_refusal(text: &mut Text<'_>, number: u32, place: usize)
+    ensures { Puts text.old text.new (text_of (refuses number place)) }
 {
-    let first = put_named(bytes, at, b"refused", number as u64);
-    let second = put_byte(bytes, first, b' ');
-    let third = put_number(bytes, second, place as u64);
-    put_byte(bytes, third, b'\n')
+    text.put_named(b"refused", u64::from(number));
+    text.put_byte(b' ');
+    text.put_number(place as u64);
+    text.put_byte(b'\n');
 }
 
 // One of the numbers of a chain's line, with its word, after one space.
-fn put_part(bytes: &mut [u8], at: usize, word: &[u8], number: u32) -> usize
-    ensures { PutsText bytes.old bytes.new at result
-        (space ∷ named word.now number) }
+fn put_part(text: &mut Text<'_>, word: &[u8], number: u32)
+    ensures { Puts text.old text.new (space ∷ named word.now number) }
 {
-    let next = put_byte(bytes, at, b' ');
-    put_named(bytes, next, word, number as u64)
+    text.put_byte(b' ');
+    text.put_named(word, u64::from(number));
 }
 
 // "A chain's line gives its number, the number of paths, the longest length, the worst and best age and the jitter."
-pub fn put_chain(
-    bytes: &mut [u8],
-    at: usize,
-    chain: u32,
-    paths: u32,
-    longest: u32,
-    worst: u32,
-    best: u32,
-    jitter: u32,
-) -> usize
-    ensures { PutsText bytes.old bytes.new at result (chain_text chain
-        (record { paths = paths; longest = longest; worst = worst; best = best; jitter = jitter })) }
+pub fn put_chain(text: &mut Text<'_>, chain: u32, ages: Ages)
+    ensures { Puts text.old text.new (chain_text chain (record {
+      paths = ages.paths;
+      longest = ages.longest;
+      worst = ages.worst;
+      best = ages.best;
+      jitter = ages.jitter;
+    })) }
 {
-    let first = put_named(bytes, at, b"chain", chain as u64);
-    let second = put_part(bytes, first, b"paths", paths);
-    let third = put_part(bytes, second, b"long", longest);
-    let fourth = put_part(bytes, third, b"worst", worst);
-    let fifth = put_part(bytes, fourth, b"best", best);
-    let last = put_part(bytes, fifth, b"jitter", jitter);
-    put_byte(bytes, last, b'\n')
+    text.put_named(b"chain", u64::from(chain));
+    put_part(text, b"paths", ages.paths);
+    put_part(text, b"long", ages.longest);
+    put_part(text, b"worst", ages.worst);
+    put_part(text, b"best", ages.best);
+    put_part(text, b"jitter", ages.jitter);
+    text.put_byte(b'\n');
 }

@@ -1,3 +1,3 @@
 -- Laws of this crate.
-pub mod DigitsFrom
 pub mod Inside
+pub mod Small

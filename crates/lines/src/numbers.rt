@@ -1,11 +1,8 @@
 // Numbers in decimal.
-ghost use Rattle.std.specs.Prelude.{◌≡◌};
+ghost use Rattle.std.specs.Prelude.{◌≡◌, ◌<◌, length};
 ghost use Rattle.lines.specs.Numbers.{digits_from, number_at, number_if, numbers_at};
 
-use crate::digits::{digit_at, spaced};
-
-// Where a part ends that is not there: past every text, so that no part starts there.
-const NOWHERE: usize = 18446744073709551615;
+use crate::digits::{decimal_at, spaced};
 
 // A number, and where it ends.
 #[derive(Drop)]
@@ -25,59 +22,52 @@ pub struct Numbers {
 
 // The number that the digits from a place on write, at most 9 of them.
 fn digits_from(text: &[u8], at: usize) -> Number
+    requires { at < length text.now }
     ensures { result ≡ digits_from text.now 9 at 0 }
 {
     let mut value: u32 = 0;
-    let mut end = at;
-    let mut left: u32 = 9;
-    while 0 < left {
-        let digit = digit_at(text, end);
-        if 9 < digit {
+    for end in at..at + 9 {
+        let Some(digit) = decimal_at(text, end) else {
             return Number { value, end };
-        }
-        value = 10 * value + digit as u32;
-        end += 1;
-        left -= 1;
+        };
+        value = 10 * value + u32::from(digit);
     }
-    Number { value, end }
+    Number { value, end: at + 9 }
 }
 
 // A space and a number after it.
-fn number_at(text: &[u8], at: usize) -> Number
+fn number_at(text: &[u8], at: usize) -> Option<Number>
     ensures { result ≡ number_at text.now at }
 {
-    if spaced(text, at) {
-        if digit_at(text, at + 1) < 10 {
-            return digits_from(text, at + 1);
-        }
-    }
-    Number {
-        value: 0,
-        end: NOWHERE,
+    if spaced(text, at) && decimal_at(text, at + 1).is_some() {
+        Some(digits_from(text, at + 1))
+    } else {
+        None
     }
 }
 
 // The same where it is asked for; else 0, which takes no place.
-fn number_if(text: &[u8], at: usize, asked: bool) -> Number
+fn number_if(text: &[u8], at: usize, asked: bool) -> Option<Number>
     ensures { result ≡ number_if asked text.now at }
 {
     if asked {
-        return number_at(text, at);
+        number_at(text, at)
+    } else {
+        Some(Number { value: 0, end: at })
     }
-    Number { value: 0, end: at }
 }
 
 // `count` numbers, up to three, each after one space.
-pub fn numbers_at(text: &[u8], at: usize, count: u32) -> Numbers
+pub fn numbers_at(text: &[u8], at: usize, count: u32) -> Option<Numbers>
     ensures { result ≡ numbers_at text.now at count }
 {
-    let first = number_if(text, at, 0 < count);
-    let second = number_if(text, first.end, 1 < count);
-    let third = number_if(text, second.end, 2 < count);
-    Numbers {
+    let first = number_if(text, at, 0 < count)?;
+    let second = number_if(text, first.end, 1 < count)?;
+    let third = number_if(text, second.end, 2 < count)?;
+    Some(Numbers {
         first: first.value,
         second: second.value,
         third: third.value,
         end: third.end,
-    }
+    })
 }

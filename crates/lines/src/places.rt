@@ -9,10 +9,8 @@ pub fn first_from(text: &[u8], from: usize, byte: u8) -> usize
     ensures there { result < length text.now → slice_index text.now result ≡ byte }
     ensures none_before { (k : ℕ) → from ≤ k → k < result → slice_index text.now k ≢ byte }
 {
-    for at in from..text.len() {
-        if text[at] == byte {
-            return at;
-        }
+    match text[from..].iter().position(|b| *b == byte) {
+        Some(passed) => from + passed,
+        None => text.len(),
     }
-    text.len()
 }

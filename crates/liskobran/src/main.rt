@@ -23,8 +23,8 @@ fn print_image<R: Read, W: Write>(from: &mut R, to: &mut W) -> io::Result<()>
     let mut image = [0u8; 1024];
     let mut text = whole_texts::room();
     let count = fill_from(from, &mut image)?;
-    let size = whole_texts::put_text(&mut text, &image[0..count]);
-    to.write_all(&text[0..size])
+    let size = whole_texts::put_text(&mut text, &image[..count]);
+    to.write_all(&text[..size])
 }
 
 fn main(rt: HostRuntime) -> io::Result<()> {

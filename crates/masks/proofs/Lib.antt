@@ -2,4 +2,5 @@
 pub mod Bitwise
 pub mod Counted
 pub mod First
-mod OfLabels
+pub mod OfLabels
+pub mod Rising

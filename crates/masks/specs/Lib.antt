@@ -1,2 +1,3 @@
 -- Definitions of this crate.
 pub mod Masks
+pub mod Rising

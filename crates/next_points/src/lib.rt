@@ -1,5 +1,6 @@
 // The next point of a pair of tasks (document 01: Points; Copies and frames). With a period of 0 the answers are what the
-// definitions give; a table has none (document 01: refusal 5).
+// definitions give; a table has none (document 01: refusal 5). Writer and reader come as two tasks, as the definitions take
+// them: each call of crates/releases asks for one of them.
 #![tactic(auto)]
 
 ghost use Rattle.std.specs.Prelude.{◌≡◌};
@@ -15,26 +16,26 @@ use times::Timing;
 pub fn next_publishing(writer: Timing, reader: Timing, t: u32) -> u64
     ensures { result ≡ next_publishing writer reader t }
 {
-    publishing_from(writer, reader, first_from(writer, t as u64))
+    publishing_from(writer, reader, first_from(writer, u64::from(t)))
 }
 
 // The first publishing point of the pair after one of them, or after any release of the writer.
 pub fn publishing_after(writer: Timing, reader: Timing, point: u32) -> u64
     ensures { result ≡ publishing_after writer reader point }
 {
-    publishing_from(writer, reader, point as u64 + writer.period as u64)
+    publishing_from(writer, reader, u64::from(point) + u64::from(writer.period))
 }
 
 // The first reading point of the pair at or after tick t.
 pub fn next_reading(writer: Timing, reader: Timing, t: u32) -> u64
     ensures { result ≡ next_reading writer reader t }
 {
-    reading_from(writer, reader, first_from(reader, t as u64))
+    reading_from(writer, reader, first_from(reader, u64::from(t)))
 }
 
 // The first reading point of the pair after one of them, or after any release of the reader.
 pub fn reading_after(writer: Timing, reader: Timing, point: u32) -> u64
     ensures { result ≡ reading_after writer reader point }
 {
-    reading_from(writer, reader, point as u64 + reader.period as u64)
+    reading_from(writer, reader, u64::from(point) + u64::from(reader.period))
 }

@@ -1,41 +1,32 @@
 // The points of a pair of tasks by their number n. Document 01, Points: with M the larger of the two periods, P(n) =
-// floor(n·M / Tw) · Tw and Q(n) = ceil(n·M / Tr) · Tr.
+// floor(n·M / Tw) · Tw and Q(n) = ceil(n·M / Tr) · Tr: the writer's last release at or before n·M, and the reader's first
+// one at or after it.
 #![tactic(auto)]
 
-ghost use Rattle.std.specs.Prelude.{◌≡◌};
+ghost use Rattle.std.specs.Prelude.{◌≡◌, ◌*◌, ◌-◌, ◌^◌, ◌≤◌};
 ghost use Rattle.times.specs.Points.{larger, publishing, reading};
 
+use releases::{first_from, last_to};
 use times::Timing;
 
-// M, the larger of the two periods.
-fn larger(writer: Timing, reader: Timing) -> u32
-    ensures { result ≡ larger writer reader }
+// n·M, with M the larger of the two periods.
+fn times_larger(writer: Timing, reader: Timing, n: u32) -> u64
+    ensures is { result ≡ n * larger writer reader }
+    ensures few { result ≤ (2 ^ 32 - 1) * (2 ^ 32 - 1) }
 {
-    if writer.period < reader.period {
-        reader.period
-    } else {
-        writer.period
-    }
+    u64::from(n) * u64::from(writer.period.max(reader.period))
 }
 
 // The publishing point P(n). A writer of period 0 has no other than 0.
 pub fn publishing(writer: Timing, reader: Timing, n: u32) -> u64
     ensures { result ≡ publishing writer reader n }
 {
-    if writer.period == 0 {
-        return 0;
-    }
-    let period = writer.period as u64;
-    n as u64 * larger(writer, reader) as u64 / period * period
+    last_to(writer, times_larger(writer, reader, n))
 }
 
 // The reading point Q(n). A reader of period 0 has no other than 0.
 pub fn reading(writer: Timing, reader: Timing, n: u32) -> u64
     ensures { result ≡ reading writer reader n }
 {
-    if reader.period == 0 {
-        return 0;
-    }
-    let period = reader.period as u64;
-    (n as u64 * larger(writer, reader) as u64 + (period - 1)) / period * period
+    first_from(reader, times_larger(writer, reader, n))
 }

@@ -1,11 +1,9 @@
 -- The points of a pair by the two tests that come before them: 12, then 13, then P(n) and Q(n). No contract cites this
 -- file. Assumes nothing.
-use Prim.Native.Nat.{ℕ, ◌≤◌}
+use Prim.Native.Nat.{ℕ}
 use mathlib.Core.Bool.{Bool, true, false, ◌&&◌}
 use mathlib.Core.Path.{◌≡◌, ap, ap₂}
 use lib.Dec.{leb, ltb}
-use borrow.Author.Tests.{leb-true}
-use Rattle.lists.proofs.Bools.{and_parts}
 use Rattle.times.specs.Points.{publishing, reading}
 use Rattle.outcomes.specs.Outcome.{Outcome, gives, refuses, refused_unless}
 use Rattle.table.specs.Table.{timing_of, joins}
@@ -16,10 +14,6 @@ module _ (table : Table) (writer reader n : ℕ) where
   -- "asked .. task not in the table, or n above 1,000,000" does not hold
   abbrev pub Askable : Bool
   Askable = ltb writer table.tasks && ltb reader table.tasks && leb n 1000000
-
-  pub n_within : Askable ≡ true → n ≤ 1000000
-  n_within known =
-      leb-true n 1000000 (and_parts (ltb writer table.tasks && ltb reader table.tasks) (leb n 1000000) known).1
 
   -- the points that are asked
   abbrev pub asked : Points

@@ -1,5 +1,5 @@
 -- One path more is counted. No contract cites this file. Assumes nothing.
-use Prim.Native.Nat.{ℕ, zero, suc, ◌<◌, ◌+◌, ◌-◌, min, max}
+use Prim.Native.Nat.{ℕ, ◌+◌, ◌-◌, min, max}
 use mathlib.Core.Path.{◌≡◌, refl, sym, ap, ◌∙◌}
 use mathlib.Core.List.{List, [], ◌∷◌, ◌++◌, map, map-append}
 use native.Mathlib.Omega.{arith}
@@ -21,11 +21,6 @@ unfolding least
 least_more [] x = refl
 least_more (y ∷ []) x = refl
 least_more (y ∷ z ∷ more) x = ap (min y) (least_more (z ∷ more) x) ∙ least_of_three y (least (z ∷ more)) x
-
--- of more than none
-pub least_of_some : (paths best age : ℕ) → 0 < paths → least_with paths best age ≡ min best age
-least_of_some zero best age some = absurd (omega arith)
-least_of_some (suc more) best age some = refl
 
 -- none is counted at first
 pub sums_none : (chain : Chain) (instant start end : ℕ)

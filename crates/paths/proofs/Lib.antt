@@ -3,6 +3,7 @@ mod Begins
 mod FourInstants
 mod Inside
 mod PathTurns
+mod Reached
 mod Stretches
 mod Takes
 mod Turns

@@ -2,59 +2,42 @@
 // starts and at most so many basic paths as its slowest task has releases in a round: the walk goes along those.
 #![tactic(auto)]
 
-ghost use Rattle.std.specs.Prelude.{◌≡◌, ℕ, ◌<◌, ◌≤◌};
-ghost use Rattle.quotients.specs.Inverses.{InversesOf};
+ghost use Rattle.std.specs.Prelude.{◌≡◌, ℕ, ◌<◌, ◌≤◌, length};
+ghost use Rattle.quotients.specs.Paces.{periods_of};
 ghost use Rattle.paths.specs.Walks.{RightChain, SumsOfRound, first_walk};
 
 mod steps;
 
-use following::four::Four;
 use following::{end_from, last_start, passed_on};
 use path_sums::Walk;
-use quotients::inverses_of;
+use quotients::{Pace, paces_of};
 use steps::step;
 
+// The most tasks that a chain has.
+const MOST_TASKS: usize = 8;
+
 // The task with the longest period. The walk is right along any task, and shortest along this one.
-fn slowest(periods: &[u32; 32], count: usize) -> usize
-    requires { (0 < count) × (count ≤ 8) }
-    ensures { result < count }
+fn slowest(paces: &[Pace]) -> usize
+    requires { 0 < length paces.now }
+    ensures { result < length paces.now }
 {
-    let mut at: usize = 0;
-    let mut i: usize = 1;
-    while i < count {
-        if periods[at] < periods[i] {
-            at = i;
-        }
-        i += 1;
-    }
-    at
+    (0..paces.len())
+        .max_by_key(|at| paces[*at].period)
+        .unwrap_or(0)
 }
 
 // The walk at the instant at which task number `at` publishes the first start: no path is counted yet.
-fn begun(
-    periods: &[u32; 32],
-    factors: &[u32; 32],
-    shifts: &[u32; 32],
-    at: usize,
-    count: usize,
-) -> Walk
-    requires { ((round : ℕ) × RightChain periods.now count round) × (at < count)
-        × InversesOf periods.now factors.now shifts.now count }
-    ensures { result ≡ first_walk periods.now at count }
+fn begun(paces: &[Pace], at: usize) -> Walk
+    requires { ((round : ℕ) × RightChain (periods_of paces.now) (length paces.now) round) × (at < length paces.now) }
+    ensures { result ≡ first_walk (periods_of paces.now) at (length paces.now) }
 {
-    let zeros = Four {
-        a: 0,
-        b: 0,
-        c: 0,
-        d: 0,
-    };
-    let instants = passed_on(periods, factors, shifts, 1, at + 1, zeros);
-    let starts = last_start(periods, factors, shifts, at, instants);
-    let ends = end_from(periods, factors, shifts, at, count, instants);
+    let instants = passed_on(&paces[1..=at], [0; 4]);
+    let starts = last_start(paces, at, instants);
+    let ends = end_from(paces, at, instants);
     Walk {
-        instant: instants.a,
-        start: starts.a,
-        end: ends.a,
+        instant: instants[0],
+        start: starts[0],
+        end: ends[0],
         paths: 0,
         longest: 0,
         worst: 0,
@@ -63,17 +46,17 @@ fn begun(
 }
 
 // The basic paths of a round, counted.
-pub fn count_paths(periods: &[u32; 32], count: usize, round: u32) -> Walk
-    requires { RightChain periods.now count round }
-    ensures { SumsOfRound periods.now count round result }
+pub fn count_paths(periods: &[u32], round: u32) -> Walk
+    requires { RightChain periods.now (length periods.now) round }
+    ensures { SumsOfRound periods.now (length periods.now) round result }
 {
-    let at = slowest(periods, count);
-    let mut factors = [0u32; 32];
-    let mut shifts = [0u32; 32];
-    inverses_of(periods, count, &mut factors, &mut shifts);
-    let mut walk = begun(periods, &factors, &shifts, at, count);
+    let mut room = [Pace::of(1); MOST_TASKS];
+    paces_of(periods, &mut room);
+    let paces = &room[..periods.len()];
+    let at = slowest(paces);
+    let mut walk = begun(paces, at);
     while walk.start < round {
-        walk = step(periods, &factors, &shifts, at, count, round, walk);
+        walk = step(paces, at, round, walk);
     }
     walk
 }

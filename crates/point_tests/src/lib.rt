@@ -12,26 +12,18 @@ use times::Timing;
 pub fn publishes_at(writer: Timing, reader: Timing, t: u32) -> bool
     ensures { result ≡ publishing_test writer reader t }
 {
-    let tick = t as u64;
-    if !is_release(writer, tick) {
-        return false;
-    }
-    if reader.period <= writer.period {
-        return true;
-    }
-    first_from(reader, tick) < tick + writer.period as u64
+    let tick = u64::from(t);
+    is_release(writer, tick)
+        && (reader.period <= writer.period
+            || first_from(reader, tick) < tick + u64::from(writer.period))
 }
 
 // Tick t is a reading point of the pair.
 pub fn serves_at(writer: Timing, reader: Timing, t: u32) -> bool
     ensures { result ≡ reading_test writer reader t }
 {
-    let tick = t as u64;
-    if !is_release(reader, tick) {
-        return false;
-    }
-    if writer.period <= reader.period {
-        return true;
-    }
-    tick < last_to(writer, tick) + reader.period as u64
+    let tick = u64::from(t);
+    is_release(reader, tick)
+        && (writer.period <= reader.period
+            || tick < last_to(writer, tick) + u64::from(reader.period))
 }

@@ -1,6 +1,5 @@
 -- Laws and theorems of this crate.
 mod AcceptedRight
-mod AskedArrays
 mod AskedChain
 mod ChainShown
 mod CoreListed

@@ -46,7 +46,3 @@ quotient_is D factor shift n inverse small =
     rw inverse.is
     (product_quotient D (2 ^ shift) n inverse.positive (omega (arith, inverse.wide, inverse.positive))
     inverse.wide small)
-
--- the factor of a divisor that is not small is below 2^32
-pub few_times : (P D : ℕ) → 0 < D → P < 4294967295 * D → P / D < 4294967295
-few_times P D positive less = (div-lt_iff_lt-mul positive).1 less

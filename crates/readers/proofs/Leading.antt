@@ -3,12 +3,15 @@
 use Prim.Native.Nat.{ℕ, suc, ◌+◌, ◌-◌, ◌*◌, ◌/◌, ◌^◌, ◌<◌, ◌≤◌}
 use mathlib.Core.Path.{◌≡◌, sym, ap, ◌∙◌}
 use mathlib.Core.Logic.{by_cases}
+use mathlib.Core.List.{[]}
 use native.Mathlib.Decide.{dec_lt}
 use native.Mathlib.Nat.{mod-lt, pow-suc}
 use native.Mathlib.Omega.{arith}
+use Rattle.std.proofs.Math.Nat.{mod-le}
 use lib.Bits.{bit_and, and_mask}
 use lib.Count.{count_leading_zeros, leading_of_zero, leading_unique}
 use lib.Pow.{pow_pos, ones_lt, ones_split, high}
+use Rattle.masks.proofs.First.{first_held}
 use Rattle.readers.specs.NextReader.{next_reader}
 use Rattle.readers.proofs.Rest.{rest_from, rest_none, rest_next}
 use Rattle.readers.proofs.Walk.{next_within}
@@ -47,3 +50,11 @@ module _ (mask from : ℕ) (few : from ≤ 32) where
   pub leading_next : count_leading_zeros 32 (bit_and mask (4294967295 / 2 ^ from)) ≡ next_reader mask from
   leading_next =
       rw (cut mask from few) (sym (by_cases (dec_lt next 32) with_next (λ past. without_next (omega arith))))
+
+  -- a bit that is left stands for a task
+  pub leading_known : mask < 2 ^ 32 → ¬ (bit_and mask (4294967295 / 2 ^ from) ≡ 0)
+      → count_leading_zeros 32 (bit_and mask (4294967295 / 2 ^ from)) < 32
+  leading_known known some =
+      let whole = cut mask from few in
+      let within = mod-le mask (2 ^ (32 - from)) in
+      (first_held {A = ℕ} (λ r. []) 32 _ (omega (arith, some)) (omega (arith, whole, within))).known

@@ -10,30 +10,24 @@
 #![tactic(auto)]
 
 use answers::{ask_ages, ask_directly, ask_image, ask_points};
-use case_lines::{case_at, passed_over};
+use case_lines::{Case, case_at, passed_over};
 use case_words::Question;
 use filling::fill_from;
-use lines::numbers::Numbers;
-use lines::places::first_from;
 use listing_answers::ask_listing;
 use std::io;
 use std::io::Write;
 use telling::{complain, end_line, tell_name};
 
-// The answer to a question.
-fn answer<W: Write>(
-    out: &mut W,
-    question: Question,
-    numbers: Numbers,
-    image: &[u8],
-) -> io::Result<()> {
-    match question {
+// The answer to a case's question.
+fn answer<W: Write>(out: &mut W, case: &Case) -> io::Result<()> {
+    let image = case.image;
+    let numbers = &case.numbers;
+    match case.question {
         Question::Image => ask_image(out, image),
         Question::Points => ask_points(out, image, numbers.first, numbers.second, numbers.third),
         Question::Listing => ask_listing(out, image, numbers.first, numbers.second),
         Question::Ages => ask_ages(out, image, numbers.first),
         Question::Directly => ask_directly(out, numbers.first, numbers.second, numbers.third),
-        Question::Unknown => complain(out),
     }
 }
 
@@ -43,22 +37,18 @@ fn run_line<W: Write>(out: &mut W, line: &[u8]) -> io::Result<()> {
         return Ok(());
     }
     let start = tell_name(out, line)?;
-    let mut image = [0u8; 512];
-    let case = case_at(line, start, &mut image);
-    let question = case.question;
-    let numbers = case.numbers;
-    let count = case.count;
-    answer(out, question, numbers, &image[0..count])?;
+    let mut room = [0u8; 512];
+    match case_at(line, start, &mut room) {
+        Some(case) => answer(out, &case)?,
+        None => complain(out)?,
+    }
     end_line(out)
 }
 
-// Line after line.
+// Line after line. What follows the last line's end is empty, and passed over.
 fn run_lines<W: Write>(out: &mut W, text: &[u8]) -> io::Result<()> {
-    let mut at: usize = 0;
-    while at < text.len() {
-        let end = first_from(text, at, b'\n');
-        run_line(out, &text[at..end])?;
-        at = end + 1;
+    for line in text.split(|byte| *byte == b'\n') {
+        run_line(out, line)?;
     }
     Ok(())
 }
@@ -66,5 +56,5 @@ fn run_lines<W: Write>(out: &mut W, text: &[u8]) -> io::Result<()> {
 fn main(rt: HostRuntime) -> io::Result<()> {
     let mut text = [0u8; 16384];
     let count = fill_from(&mut rt.reader(), &mut text)?;
-    run_lines(&mut io::writer(&rt), &text[0..count])
+    run_lines(&mut io::writer(&rt), &text[..count])
 }

@@ -6,7 +6,14 @@ ghost use Rattle.std.specs.Prelude.{◌≡◌, ◌+◌, ◌*◌, ◌≤◌, ◌<
 ghost use Rattle.std.proofs.lemmas.List.Edits.{sets};
 ghost use Rattle.bits.specs.Packing.{bits_of, bytes_of};
 
-// A byte at a place, if there is one.
+// The last 32 bits of a word as four bytes.
+fn last_four(word: u64) -> [u8; 4]
+    ensures { result ≡ bytes_of 4 (bits_of 32 word) }
+{
+    ((word % 4294967296) as u32).to_be_bytes()
+}
+
+// A byte at a place, if there is one. (By `get_mut` its proof does not close: nothing is said of the bytes at `None`.)
 fn store(bytes: &mut [u8], place: usize, byte: u8)
     ensures { bytes.new ≡ set bytes.old place byte }
 {
@@ -20,10 +27,9 @@ pub fn store_some(bytes: &mut [u8], at: usize, word: u64, count: usize)
     requires { (at < 2 ^ 62) × (count ≤ 4) }
     ensures { bytes.new ≡ sets bytes.old (4 * at) (bytes_of count (bits_of 32 word)) }
 {
-    let mut i: usize = 0;
-    while i < count {
-        store(bytes, 4 * at + i, ((word >> (24 - 8 * i)) % 256) as u8);
-        i += 1;
+    let four = last_four(word);
+    for i in 0..count {
+        store(bytes, 4 * at + i, four[i]);
     }
 }
 
@@ -34,10 +40,7 @@ pub fn store_four(bytes: &mut [u8], at: usize, word: u64) -> usize
         × (bytes.new ≡ sets bytes.old (4 * at) (bytes_of 4 (bits_of 32 word))) }
 {
     if at < bytes.len() / 4 {
-        bytes[4 * at] = ((word / 16777216) % 256) as u8;
-        bytes[4 * at + 1] = ((word / 65536) % 256) as u8;
-        bytes[4 * at + 2] = ((word / 256) % 256) as u8;
-        bytes[4 * at + 3] = (word % 256) as u8;
+        bytes[4 * at..4 * at + 4].copy_from_slice(&last_four(word));
         return at + 1;
     }
     let place = at % 4611686018427387904;

@@ -1,12 +1,11 @@
--- The numbers that say no: of each refusal its number in document 01, and what the image's answer says by them.
+-- The numbers that say no: of each refusal its number in document 01, and what an answer says by them.
 -- Assumes nothing.
-use Rattle.std.specs.Prelude.{ℕ}
+use Rattle.std.specs.Prelude.{ℕ, Result, Ok, Err}
 use Rattle.outcomes.specs.Outcome.{Outcome, gives, refuses}
 use Rattle.table.specs.declared.Refusal.{Refusal}
 use Rattle.table.specs.declared.Refusal.TheVariants.{Ends, Version, Count, Core, Period, Writer, Reader, Chain}
 use Rattle.table.specs.declared.Refusal.TheVariants.{Fill, Hyperperiod, Room, Asked, Unjoined}
-use Rattle.table.specs.declared.Answer.{Answer}
-use Rattle.table.specs.declared.Answer.TheVariants.{Accepted, Refused}
+use Rattle.table.specs.declared.Refused.{Refused}
 
 -- "No." and "When" of document 01's table
 abbrev pub number_of : Refusal → ℕ
@@ -24,11 +23,11 @@ number_of Room = 11  -- lent buffer shorter than the listing
 number_of Asked = 12  -- asked core, chain or task not in the table, or n above 1,000,000
 number_of Unjoined = 13  -- no label goes from the asked writer to the asked reader
 
--- an answer that has something to say where it is accepted; else the refusal's number and place
-abbrev pub said_with : {A : Type 0} → Answer → A → Outcome A
-said_with Accepted a = gives a
-said_with (Refused refusal place) a = refuses (number_of refusal) place
+-- what an answer says: what it has to say, or the refusal's number and place
+abbrev pub said_of : {A : Type 0} → Result A Refused → Outcome A
+said_of (Ok a) = gives a
+said_of (Err refused) = refuses (number_of refused.refusal) refused.place
 
 -- the image's answer: accepted, with nothing more to say, or the refusal's number and place
-abbrev pub said_of_image : Answer → Outcome (Unit {0})
-said_of_image answer = said_with answer tt
+abbrev pub said_of_image : Result (Unit {0}) Refused → Outcome (Unit {0})
+said_of_image answer = said_of answer

@@ -7,20 +7,20 @@ use mathlib.Core.List.{List, [], ◌∷◌, ◌++◌, append_assoc}
 use native.Mathlib.Numerals.{add-one}
 use Rattle.lists.specs.Lists.{some_below, each_below}
 use Rattle.printing.specs.Words.{hyperperiod_word, named, newline}
-use Rattle.texts.specs.Puts.{PutsText}
-use Rattle.texts.proofs.Putting.{puts_nothing, puts_then}
+use Rattle.texts.specs.Puts.{Puts}
+use Rattle.texts.specs.declared.Text.{Text}
+use Rattle.texts.proofs.Putting.{nothing_put, put_then}
 
-module _ (text : ℕ → List ℕ) where
+module _ (text_of : ℕ → List ℕ) where
   -- none yet, and one more
-  pub none_put : (held : List ℕ) (at : ℕ) → PutsText held held at at (each_below 0 text)
+  pub none_put : (text : Text) → Puts text text (each_below 0 text_of)
   unfolding each_below
-  none_put held at = puts_nothing held at
+  none_put text = nothing_put text
 
-  pub one_more_put : {held middle bytes : List ℕ} {at next last : ℕ} (k : ℕ)
-      → PutsText held middle at next (each_below k text) → PutsText middle bytes next last (text k)
-      → PutsText held bytes at last (each_below (k + 1) text)
+  pub one_more_put : {held middle made : Text} (k : ℕ) → Puts held middle (each_below k text_of)
+      → Puts middle made (text_of k) → Puts held made (each_below (k + 1) text_of)
   unfolding each_below
-  one_more_put k first then = rw add-one (puts_then first then)
+  one_more_put k first then = rw add-one (put_then first then)
 
 module _ (test : ℕ → Bool) where
   -- none was tested yet, and one more that fails
@@ -33,10 +33,9 @@ module _ (test : ℕ → Bool) where
   more_fail core none fails = rw (add-one core, none, fails)
 
 -- the hyperperiod's line, and then the texts of the cores
-pub first_part : (text : ℕ → List ℕ) (round cores : ℕ) {held middle bytes : List ℕ} {at next last H : ℕ} → round ≡ H
-    → PutsText held middle at next (named hyperperiod_word round ++ newline ∷ [])
-    → PutsText middle bytes next last (each_below cores text)
-    → PutsText held bytes at last (named hyperperiod_word H ++ newline ∷ each_below cores text)
-first_part text round cores is line texts =
-    rw (← is) (rw (append_assoc (named hyperperiod_word round) (newline ∷ []) (each_below cores text)) at
-    (puts_then line texts))
+pub first_part : (text_of : ℕ → List ℕ) (round cores : ℕ) {held middle made : Text} {H : ℕ} → round ≡ H
+    → Puts held middle (named hyperperiod_word round ++ newline ∷ []) → Puts middle made (each_below cores text_of)
+    → Puts held made (named hyperperiod_word H ++ newline ∷ each_below cores text_of)
+first_part text_of round cores is line texts =
+    rw (← is) (rw (append_assoc (named hyperperiod_word round) (newline ∷ []) (each_below cores text_of)) at
+    (put_then line texts))

@@ -8,32 +8,25 @@ use measuring::measure;
 use table::Table;
 
 // The listing of a core of a table needs more than 65,536 bytes, which are 524,288 bits.
-fn too_long(table: Table, core: u32, round: u32) -> bool
-    ensures { RightRound table round → result ≡ ltb 65536 (length (listing_of table core)) }
+fn too_long(table: &Table, core: u32, round: u32) -> bool
+    ensures { RightRound table.now round
+        → result ≡ ltb 65536 (length (listing_of table.now core)) }
 {
     let measured = measure(table, core, round);
-    let copies = measured.copies;
-    if copies > 524_288 {
-        return true;
-    }
-    43 + 32 * (measured.frames as u64) + 12 * copies > 524_288
+    measured.copies > 524_288
+        || 43 + 32 * u64::from(measured.frames) + 12 * measured.copies > 524_288
 }
 
-// The listing of some core of a table does.
-pub fn some_too_long(table: Table, round: u32) -> bool
-    ensures { RightRound table round
-        → result ≡ some_below table.cores (λ core. ltb 65536 (length (listing_of table core))) }
+// The listing of some core of a table does. The loop is no `any`: at a closure that says what it answers only of some
+// tables the proof does not close.
+pub fn some_too_long(table: &Table, round: u32) -> bool
+    ensures { RightRound table.now round
+        → result ≡ some_below table.now.cores (λ core. ltb 65536 (length (listing_of table.now core))) }
 {
-    let cores = table.cores;
-    let mut core: u32 = 0;
-    while core < 8 {
-        if cores <= core as usize {
-            return false;
-        }
-        if too_long(table, core, round) {
+    for core in 0..table.cores.min(8) {
+        if too_long(table, core as u32, round) {
             return true;
         }
-        core += 1;
     }
     false
 }

@@ -9,28 +9,25 @@ use lib.Dec.{leb}
 use Rattle.outcomes.specs.Outcome.{gives, refuses, asked_of}
 use Rattle.outcomes.proofs.Outcomes.{same_given, gives_no_refusal}
 use Rattle.bits.specs.Bits.{bit_count, field_at}
-use Rattle.bits.specs.Found.{found_at, said_of_found}
-use Rattle.bits.specs.declared.Found.{Found}
-use Rattle.bits.specs.declared.Found.TheVariants.{Value, Ends}
+use Rattle.bits.specs.Found.{found_at}
 use Rattle.taking.specs.Reading.{Taken, field}
 
 module _ (w number : ℕ) (right : ℕ → Bool) (at : ℕ) (image : List ℕ) where
-  module _ (r : Found) (said : said_of_found at r ≡ found_at image at w) where
-    -- the image ends inside or before the field
-    pub field_ends : r ≡ Ends → refuses 1 at ≡ field w number right image at
+  -- the image ends inside or before the field
+  pub field_ends : {n p : ℕ} → found_at image at w ≡ refuses n p → refuses n p ≡ field w number right image at
+  unfolding field
+  field_ends told = rw told
+
+  module _ (v : ℕ) (told : found_at image at w ≡ gives v) where
+    -- the value found is right
+    pub field_right : right v ≡ true → gives (record { value = v; next = at + w }) ≡ field w number right image at
     unfolding field
-    field_ends told = rw (← said, told)
+    field_right good = rw (told, good)
 
-    module _ (v : ℕ) (told : r ≡ Value v) where
-      -- the value found is right
-      pub field_right : right v ≡ true → gives (record { value = v; next = at + w }) ≡ field w number right image at
-      unfolding field
-      field_right good = rw (← said, told, good)
-
-      -- the value found is not right
-      pub field_wrong : right v ≡ false → refuses number at ≡ field w number right image at
-      unfolding field
-      field_wrong bad = rw (← said, told, bad)
+    -- the value found is not right
+    pub field_wrong : right v ≡ false → refuses number at ≡ field w number right image at
+    unfolding field
+    field_wrong bad = rw (told, bad)
 
   -- a field that was taken: it lies within the image, its value is right, and the next bit is the one after it
   pub record TakenField (given : Taken ℕ) : Type 0 where

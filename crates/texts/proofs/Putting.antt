@@ -1,4 +1,4 @@
--- Texts put one after the other: none, a byte, and one text and then another. No contract cites this file. Assumes
+-- Texts put one after the other: none, and one text and then another. No contract cites this file. Assumes
 -- nothing.
 use Prim.Native.Nat.{ℕ, suc, ◌+◌, ◌<◌, ◌≤◌}
 use mathlib.Core.Logic.{by_cases}
@@ -9,8 +9,9 @@ use native.Mathlib.Decide.{dec_le}
 use native.Mathlib.Numerals.{add-one}
 use native.Mathlib.Omega.{arith}
 use lib.ListN.{length, get_or, set, take, length-append, length-set}
-use lib.Seq.{sets, length-sets, set_out, take-suc, take_all}
-use Rattle.texts.specs.Puts.{PutsText}
+use lib.Seq.{sets, length-sets, set_out, take-suc}
+use Rattle.texts.specs.Puts.{PutsText, Puts}
+use Rattle.texts.specs.declared.Text.{Text}
 
 -- a text that begins past the end changes nothing
 sets_past : (held : List ℕ) (at : ℕ) (text : List ℕ) → length held ≤ at → sets held at text ≡ held
@@ -29,13 +30,6 @@ sets_append held at (x ∷ text) more =
 -- nothing
 pub puts_nothing : (held : List ℕ) (at : ℕ) → PutsText held held at at []
 puts_nothing held at = record { written = refl; place = omega arith }
-
--- a byte where there is room, and where there is none
-pub puts_byte : (held : List ℕ) (at x : ℕ) → at < length held → PutsText held (set held at x) at (at + 1) (x ∷ [])
-puts_byte held at x room = record { written = refl; place = omega arith }
-
-pub puts_no_byte : (held : List ℕ) (at x : ℕ) → length held ≤ at → PutsText held held at at (x ∷ [])
-puts_no_byte held at x past = record { written = sym (set_out held at x past); place = omega arith }
 
 -- one text and then another
 pub puts_then : {held middle bytes : List ℕ} {at next last : ℕ} {text more : List ℕ}
@@ -56,18 +50,14 @@ puts_then {held} {middle} {bytes} {at} {next} {last} {text} {more} first then = 
       omega (arith, first.place, then.place, length-append text more);
 }
 
--- the bytes stay as many as they were
-pub puts_length : {held bytes : List ℕ} {at next : ℕ} {text : List ℕ} → PutsText held bytes at next text
-    → length bytes ≡ length held
-puts_length {held} {at = at} {text = text} puts = ap length puts.written ∙ length-sets held at text
+-- the same of a text that is being made: nothing, one text and then another, and a word byte by byte
+pub nothing_put : (text : Text) → Puts text text []
+nothing_put text = record { in_place = refl; put = puts_nothing text.bytes.now text.at }
 
--- the next byte of a word
-pub puts_next : {held middle bytes : List ℕ} {at next last : ℕ} (word : List ℕ) (i : ℕ) → i < length word
-    → PutsText held middle at next (take i word) → PutsText middle bytes next last (get_or word i 0 ∷ [])
-    → PutsText held bytes at last (take (i + 1) word)
-puts_next word i inside first then = rw (add-one i, take-suc word i 0 inside) (puts_then first then)
+pub put_then : {held middle made : Text} {text more : List ℕ} → Puts held middle text → Puts middle made more
+    → Puts held made (text ++ more)
+put_then first then = record { in_place = then.in_place ∙ first.in_place; put = puts_then first.put then.put }
 
--- all of its bytes
-pub puts_whole : {held bytes : List ℕ} {at next : ℕ} (word : List ℕ) (i : ℕ) → length word ≤ i
-    → PutsText held bytes at next (take i word) → PutsText held bytes at next word
-puts_whole word i all puts = rw (take_all i word all) at puts
+pub put_next : {held middle made : Text} (word : List ℕ) (i : ℕ) → i < length word → Puts held middle (take i word)
+    → Puts middle made (get_or word i 0 ∷ []) → Puts held made (take (i + 1) word)
+put_next word i inside first then = rw (add-one i, take-suc word i 0 inside) (put_then first then)

@@ -27,9 +27,10 @@ use Rattle.listings.specs.FromBytes.{listing_in}
 use Rattle.listings.proofs.NumbersFit.{listing_taken_back}
 use Rattle.questions.specs.Questions.{points, listing, bytes_listed, lent_after, ages}
 use Rattle.questions.specs.Answers.{said_of_points, said_of_listing, said_of_ages}
-use Rattle.aged_chains.specs.declared.AgesAnswer.{AgesAnswer}
-use Rattle.questions.specs.declared.ListingAnswer.{ListingAnswer}
-use Rattle.pair_points.specs.declared.PointsAnswer.{PointsAnswer}
+use Rattle.std.specs.Prelude.{Result}
+use Rattle.aged_chains.specs.declared.Ages.{Ages}
+use Rattle.pair_points.specs.declared.Points.{Points}
+use Rattle.table.specs.declared.Refused.{Refused}
 use Rattle.questions.proofs.listing.Met as asked_listing_met
 use Rattle.questions.proofs.listing.Statement as asked_listing
 use Rattle.questions.proofs.points.Met as asked_points_met
@@ -120,15 +121,15 @@ pub listing_is_taken_back : (image : List ℕ) (whole : Whole) → read_image im
 listing_is_taken_back = listing_taken_back
 
 -- Two answers under a definition coincide: number, place, every field, every byte of the lent buffer.
-pub points_once : (image : List ℕ) (writer reader n : ℕ) (a b : PointsAnswer)
+pub points_once : (image : List ℕ) (writer reader n : ℕ) (a b : Result Points Refused)
     → said_of_points a ≡ points image writer reader n → said_of_points b ≡ points image writer reader n → a ≡ b
 points_once = points_determined
 
-pub ages_once : (image : List ℕ) (chain : ℕ) (a b : AgesAnswer)
+pub ages_once : (image : List ℕ) (chain : ℕ) (a b : Result Ages Refused)
     → said_of_ages a ≡ ages image chain → said_of_ages b ≡ ages image chain → a ≡ b
 ages_once = ages_determined
 
-pub listing_once : (image : List ℕ) (core : ℕ) (buffer : List ℕ) (a b : ListingAnswer) (after_a after_b : List ℕ)
+pub listing_once : (image : List ℕ) (core : ℕ) (buffer : List ℕ) (a b : Result ℕ Refused) (after_a after_b : List ℕ)
     → said_of_listing a ≡ bytes_listed (listing image core (length buffer))
     → after_a ≡ lent_after (listing image core (length buffer)) buffer
     → said_of_listing b ≡ bytes_listed (listing image core (length buffer))

@@ -5,18 +5,16 @@ use mathlib.Core.Bool.{Bool, true, false}
 use mathlib.Core.Path.{◌≡◌, sym, ap, ◌∙◌}
 use mathlib.Core.List.{List, ◌∷◌, ◌++◌}
 use lib.Dec.{leb, ltb}
-use lib.ListN.{length, take}
+use lib.ListN.{length}
 use borrow.Author.Tests.{lt-ltb}
+use Rattle.std.specs.Prelude.{Option, Some, None, Result, Ok, Err}
 use Rattle.lists.specs.Lists.{some_below, each_below}
 use Rattle.outcomes.specs.Outcome.{gives, refuses, asked_of}
 use Rattle.outcomes.proofs.Outcomes.{same_given, gives_no_refusal}
-use Rattle.times.specs.Hyperperiod.{lcm_of}
 use Rattle.times.specs.Rounds.{within_limit, said_of_round}
-use Rattle.times.specs.declared.rounds.Round.{Round}
-use Rattle.times.specs.declared.rounds.Round.TheVariants.{Within, Above}
 use Rattle.table.specs.Image.{Whole, read_image}
 use Rattle.table.specs.Table.{hyperperiod_of}
-use Rattle.table.specs.declared.Refusal.{Refusal}
+use Rattle.table.specs.declared.Refused.{Refused}
 use Rattle.table.specs.declared.Table.{Table}
 use Rattle.table.proofs.Accepted.{accepted_sound, accepted_within}
 use Rattle.table.proofs.MeetsRules.{accepted_meets_rules}
@@ -25,12 +23,12 @@ use Rattle.frames.specs.Counts.{RightRound}
 use Rattle.ages.specs.Ages.{ages_of_chain}
 use Rattle.questions.specs.Answers.{said_of_ages}
 use Rattle.questions.specs.Questions.{ages}
-use Rattle.aged_chains.specs.declared.AgesAnswer.{AgesAnswer}
-use Rattle.aged_chains.specs.declared.AgesAnswer.TheVariants.{Ages, Refused}
+use Rattle.aged_chains.specs.declared.Ages.{Ages}
 use Rattle.printing.specs.Printed.{core_text, chain_text, whole_text, printable, text_of, printed}
 use Rattle.printing.specs.Words.{hyperperiod_word, named, newline}
-use Rattle.texts.specs.Puts.{PutsText}
-use Rattle.texts.proofs.Putting.{puts_then}
+use Rattle.texts.specs.Puts.{Puts}
+use Rattle.texts.specs.declared.Text.{Text}
+use Rattle.texts.proofs.Putting.{put_then}
 
 -- the table of an accepted image is right, with its own round
 pub right_round : (image : List ℕ) (whole : Whole) → read_image image ≡ gives whole → (table : Table)
@@ -47,22 +45,21 @@ right_round image whole accepted table is round own =
 
 -- the round of such a table that is answered is its hyperperiod, and never above the limit
 module _ (image : List ℕ) (whole : Whole) (accepted : read_image image ≡ gives whole) (table : Table)
-    (is : table ≡ whole.table) (round : Round)
-    (said : said_of_round round ≡ within_limit (lcm_of (take table.tasks table.period)))
+    (is : table ≡ whole.table) (round : Option ℕ) (said : said_of_round round ≡ within_limit (hyperperiod_of table))
   where
     given_round : said_of_round round ≡ gives (hyperperiod_of table)
-    unfolding within_limit hyperperiod_of
+    unfolding within_limit
     given_round =
         let within : leb (hyperperiod_of table) 1000000 ≡ true =
         ap (λ t. leb (hyperperiod_of t) 1000000) is ∙ accepted_within image whole accepted in
         said ∙ rw within
 
-    pub is_round : {ticks : ℕ} → round ≡ Within ticks → ticks ≡ hyperperiod_of table
+    pub is_round : {ticks : ℕ} → round ≡ Some ticks → ticks ≡ hyperperiod_of table
     is_round {ticks} told =
         let same : gives ticks ≡ gives (hyperperiod_of table) = ap said_of_round (sym told) ∙ given_round in
         cc
 
-    pub never_above : round ≡ Above → ⊥
+    pub never_above : round ≡ None → ⊥
     never_above told = gives_no_refusal (sym given_round ∙ ap said_of_round told)
 
 module _ (whole : Whole) (table : Table) (is : table ≡ whole.table) {long : Bool}
@@ -77,15 +74,14 @@ module _ (whole : Whole) (table : Table) (is : table ≡ whole.table) {long : Bo
     too_long_text true_is = rw (sym same_test ∙ true_is)
 
     -- none is: the first part of the text, and then the chains' lines
-    pub whole_text_lem : long ≡ false → {held middle bytes : List ℕ} {at next last : ℕ}
-        → PutsText held middle at next (named hyperperiod_word (hyperperiod_of table)
+    pub whole_text_lem : long ≡ false → {held middle made : Text}
+        → Puts held middle (named hyperperiod_word (hyperperiod_of table)
         ++ newline ∷ each_below table.cores (λ core. core_text (core_listing table core)))
-        → PutsText middle bytes next last
-        (each_below table.chains (λ k. chain_text k (ages_of_chain whole.table whole.rows k)))
-        → PutsText held bytes at last (text_of (printable whole))
+        → Puts middle made (each_below table.chains (λ k. chain_text k (ages_of_chain whole.table whole.rows k)))
+        → Puts held made (text_of (printable whole))
     unfolding printable text_of whole_text
     whole_text_lem false_is first chains =
-        rw (sym same_test ∙ false_is) (puts_then (rw is at first) (rw (ap (λ t. t.chains) is) at chains))
+        rw (sym same_test ∙ false_is) (put_then (rw is at first) (rw (ap (λ t. t.chains) is) at chains))
 
 -- of an image: accepted, or refused
 pub of_accepted : (image : List ℕ) (whole : Whole) → read_image image ≡ gives whole
@@ -100,16 +96,22 @@ of_refused image refused = ap text_of refused
 
 -- a chain of an accepted image, asked for its ages
 module _ (image : List ℕ) (whole : Whole) (accepted : read_image image ≡ gives whole) (chain : ℕ)
-    (known : chain < whole.table.chains) (answer : AgesAnswer) (said : said_of_ages answer ≡ ages image chain)
+    (known : chain < whole.table.chains) (answer : Result Ages Refused) (said : said_of_ages answer ≡ ages image chain)
   where
     aged : said_of_ages answer ≡ gives (ages_of_chain whole.table whole.rows chain)
     unfolding ages
     aged = said ∙ rw (accepted, lt-ltb _ _ known)
 
-    pub never_refused : {refusal : Refusal} {place : ℕ} → answer ≡ Refused refusal place → ⊥
+    pub never_refused : {refused : Refused} → answer ≡ Err refused → ⊥
     never_refused told = gives_no_refusal (sym aged ∙ ap said_of_ages told)
 
-    pub ages_told : {paths longest worst best jitter : ℕ} → answer ≡ Ages paths longest worst best jitter
-        → record { paths = paths; longest = longest; worst = worst; best = best; jitter = jitter }
+    pub ages_told : {told : Ages} → answer ≡ Ok told
+        → record {
+          paths = told.paths;
+          longest = told.longest;
+          worst = told.worst;
+          best = told.best;
+          jitter = told.jitter;
+        }
         ≡ ages_of_chain whole.table whole.rows chain
     ages_told told = same_given (ap said_of_ages (sym told) ∙ aged)

@@ -5,45 +5,29 @@ ghost use Rattle.outcomes.specs.Outcome.{gives};
 ghost use Rattle.table.specs.Image.{Whole, read_image};
 ghost use Rattle.ages.specs.Ages.{ages_of_chain};
 ghost use Rattle.printing.specs.Printed.{chain_text};
-ghost use Rattle.texts.specs.Puts.{PutsText};
+ghost use Rattle.texts.specs.Puts.{Puts};
 
 use line_texts::put_chain;
-use questions::AgesAnswer;
+use texts::Text;
 
 // The line of one chain.
-fn put_asked(bytes: &mut [u8], at: usize, image: &[u8], chain: u32) -> usize
+fn put_asked(text: &mut Text<'_>, image: &[u8], chain: u32)
     ensures { (whole : Whole) → read_image image.now ≡ gives whole → chain < whole.table.chains
-        → PutsText bytes.old bytes.new at result
-        (chain_text chain (ages_of_chain whole.table whole.rows chain)) }
+        → Puts text.old text.new (chain_text chain (ages_of_chain whole.table whole.rows chain)) }
 {
-    let answer = questions::ages(image, chain as u64);
-    let AgesAnswer::Ages {
-        paths,
-        longest,
-        worst,
-        best,
-        jitter,
-    } = answer
-    else {
-        return at;
+    let Ok(ages) = questions::ages(image, u64::from(chain)) else {
+        return;
     };
-    put_chain(bytes, at, chain, paths, longest, worst, best, jitter)
+    put_chain(text, chain, ages);
 }
 
 // The lines of all chains. An image has no more than 16.
-pub(crate) fn put_chains(bytes: &mut [u8], at: usize, image: &[u8], chains: usize) -> usize
+pub(crate) fn put_chains(text: &mut Text<'_>, image: &[u8], chains: usize)
     ensures { (whole : Whole) → read_image image.now ≡ gives whole → chains ≡ whole.table.chains
-        → PutsText bytes.old bytes.new at result
+        → Puts text.old text.new
         (each_below chains (λ k. chain_text k (ages_of_chain whole.table whole.rows k))) }
 {
-    let mut next = at;
-    let mut chain: u32 = 0;
-    while chain < 16 {
-        if chains <= chain as usize {
-            return next;
-        }
-        next = put_asked(bytes, next, image, chain);
-        chain += 1;
+    for chain in 0..chains.min(16) {
+        put_asked(text, image, chain as u32);
     }
-    next
 }

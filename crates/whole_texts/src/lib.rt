@@ -6,18 +6,19 @@ ghost use Rattle.std.specs.Prelude.{◌≡◌, length};
 ghost use Rattle.outcomes.specs.Outcome.{gives};
 ghost use Rattle.table.specs.Image.{Whole, read_image};
 ghost use Rattle.printing.specs.Printed.{printable, printed, text_of};
-ghost use Rattle.texts.specs.Puts.{PutsText};
+ghost use Rattle.texts.specs.Puts.{Puts, PutsText};
 
 mod chain_lines;
 
 use chain_lines::put_chains;
 use line_texts::put_refusal;
-use table::{Answer, Table, number_of};
+use table::{Refusal, Table};
 use table_texts::lengths::some_too_long;
 use table_texts::put_first_part;
-use times::rounds::Round;
+use texts::Text;
 
-// Room for every text: what is printed of an accepted image is no longer than 2,447,876 bytes (proofs/Lengths.antt).
+// Room for every text: what is printed of an accepted image is no longer than 2,447,876 bytes (proofs/Lengths.antt). An
+// array, since the program works in fixed memory.
 pub fn room() -> [u8; 2621440]
     ensures { 2621440 ≡ length result }
 {
@@ -25,31 +26,38 @@ pub fn room() -> [u8; 2621440]
 }
 
 // What is printed of an accepted image with this table: hyperperiod, cores and chains, or the line of refusal 11.
-fn put_accepted(bytes: &mut [u8], image: &[u8], table: Table) -> usize
-    ensures { (whole : Whole) → read_image image.now ≡ gives whole → table ≡ whole.table
-        → PutsText bytes.old bytes.new 0 result (text_of (printable whole)) }
+fn put_accepted(text: &mut Text<'_>, image: &[u8], table: &Table)
+    ensures { (whole : Whole) → read_image image.now ≡ gives whole → table.now ≡ whole.table
+        → Puts text.old text.new (text_of (printable whole)) }
 {
-    let period = table.period;
-    let round = times::rounds::hyperperiod(period, table.tasks);
-    let Round::Within(ticks) = round else {
-        return 0;
+    let Some(round) = table.hyperperiod() else {
+        return;
     };
-    if some_too_long(table, ticks) {
-        return put_refusal(bytes, 0, 11, 0);
+    if some_too_long(table, round) {
+        put_refusal(text, Refusal::Room.into(), 0);
+        return;
     }
-    let next = put_first_part(bytes, 0, table, ticks);
-    put_chains(bytes, next, image, table.chains)
+    put_first_part(text, table, round);
+    put_chains(text, image, table.chains);
 }
 
-// What is printed of any bytes, from the first lent byte on, as far as they go; how many bytes it is.
+// What is printed of any bytes: of an accepted image its text, or the line of its refusal.
+fn put_image(text: &mut Text<'_>, image: &[u8])
+    ensures { Puts text.old text.new (printed image.now) }
+{
+    let read = images::read_table(image);
+    let Err(refused) = read.answer else {
+        put_accepted(text, image, &read.table);
+        return;
+    };
+    put_refusal(text, refused.refusal.into(), refused.place);
+}
+
+// The same, from the first lent byte on, as far as they go; how many bytes it is.
 pub fn put_text(bytes: &mut [u8], image: &[u8]) -> usize
     ensures { PutsText bytes.old bytes.new 0 result (printed image.now) }
 {
-    let read = images::read_table(image);
-    let answer = read.answer;
-    let Answer::Refused { refusal, place } = answer else {
-        let table = read.table;
-        return put_accepted(bytes, image, table);
-    };
-    put_refusal(bytes, 0, number_of(refusal), place)
+    let mut text = Text { bytes, at: 0 };
+    put_image(&mut text, image);
+    text.at
 }

@@ -8,7 +8,7 @@ use Rattle.bits.proofs.Reached.{found_ends, found_value, found_cut}
 use Rattle.bits.proofs.field_at.Goals as goal
 
 pub returns-then-bytes-from : goal.returns-then-bytes-from
-returns-then-bytes-from c = rw (← c.capped-wide.ensures) (found_ends _ _ _ (omega arith))
+returns-then-bytes-from c = rw (← c.min-wide.ensures) (found_ends _ _ _ (omega arith))
 
 pub nonzero_rem-result : goal.nonzero_rem-result
 nonzero_rem-result c = rw c.power.ensures (pow_pos _)
@@ -20,5 +20,5 @@ overflow_cast-result c =
 
 pub returns : goal.returns
 returns c =
-    rw (← c.capped-wide.ensures, c.bytes_at.ensures, c.power.ensures)
+    rw (← c.min-wide.ensures, c.bytes_at.ensures, c.power.ensures)
     (ap gives (found_cut _ _ _) ∙ found_value _ _ _ (omega arith))

@@ -1,25 +1,20 @@
 -- `case_bytes::byte_at` meets its contract. Assumes nothing.
-use mathlib.Core.Path.{◌≡◌, sym, ◌∙◌}
-use mathlib.Core.Bool.{true, false}
-use native.Mathlib.Omega.{arith}
-use borrow.Author.Tests.{le-ltb, lt-ltb}
-use lib.Dec.{ltb}
+use Rattle.std.proofs.Common.{◌≡◌, ◌+◌, ◌<◌, true, arith, sym, ◌∙◌}
+use Rattle.std.proofs.lemmas.Grind.{common_steps}
 use Rattle.lines.specs.Digits.{space_at}
-use Rattle.case_bytes.specs.Images.{byte_at}
 use Rattle.lines.proofs.Inside.{space_inside}
+use Rattle.lines.proofs.Small.{digit_small}
+use Rattle.case_bytes.specs.Images.{byte_at}
 use Rattle.case_bytes.proofs.byte_at.Goals as goal
-use Rattle.case_bytes.proofs.byte_at.Goals.{Else-high-gt15, Else-low-gt15, Else-not-spaced}
-
--- a space stands there
-space_there : (c : Else-not-spaced) → let args = c.args in
-    space_at args.text.now args.at ≡ true
-space_there c = sym c.spaced.ensures ∙ c.if-not-spaced.false
+use Rattle.case_bytes.proofs.byte_at.Goals.{Else-not-spaced, In_ok-low}
 
 pub returns-then-not-spaced : goal.returns-then-not-spaced
 unfolding byte_at
-returns-then-not-spaced c =
-    let none : space_at _ _ ≡ false = sym c.spaced.ensures ∙ c.if-not-spaced.true in
-    rw none
+returns-then-not-spaced c = grind (arith, common_steps)
+
+-- a space stands there
+space_there : (c : Else-not-spaced) → space_at c.args.text.now c.args.at ≡ true
+space_there c = sym c.spaced.ensures ∙ c.if-not-spaced.false
 
 pub overflow_add-at : goal.overflow_add-at
 overflow_add-at c = omega (arith, space_inside _ _ (space_there c))
@@ -27,26 +22,27 @@ overflow_add-at c = omega (arith, space_inside _ _ (space_there c))
 pub overflow_add-at-2 : goal.overflow_add-at-2
 overflow_add-at-2 c = omega (arith, space_inside _ _ (space_there (goal.at.overflow_add-at-2 c).Else-not-spaced))
 
-pub returns-then-high-gt15 : goal.returns-then-high-gt15
+pub returns-in_err-high : goal.returns-in_err-high
 unfolding byte_at
-returns-then-high-gt15 c =
-    rw (space_there (goal.at.returns-then-high-gt15 c).Else-not-spaced, ← c.digit_at-high.ensures, le-ltb _ _ c.if-high-gt15.true)
+returns-in_err-high c = grind (arith, common_steps)
 
--- both digits stand there
-high_there : (c : Else-high-gt15) → ltb c.digit_at-high.result 16 ≡ true
-high_there c = lt-ltb c.digit_at-high.result 16 (omega (arith, c.if-high-gt15.false))
-
-low_there : (c : Else-low-gt15) → ltb c.digit_at-low.result 16 ≡ true
-low_there c = lt-ltb c.digit_at-low.result 16 (omega (arith, c.if-low-gt15.false))
-
-pub returns-then-low-gt15 : goal.returns-then-low-gt15
+pub returns-in_err-low : goal.returns-in_err-low
 unfolding byte_at
-returns-then-low-gt15 c =
-    rw (space_there (goal.at.returns-then-low-gt15 c).Else-not-spaced, ← c.digit_at-high.ensures)
-    (rw (← c.digit_at-low.ensures, high_there (goal.at.returns-then-low-gt15 c).Else-high-gt15, le-ltb _ _ c.if-low-gt15.true))
+returns-in_err-low c = grind (arith, common_steps)
+
+-- both digits are below 16
+small : (c : In_ok-low) → (c.in_ok-high.high < 16) × (c.in_ok-low.low < 16)
+small c = (
+  rw (sym c.digit_at.ensures ∙ c.in_ok-high.was) at (digit_small c.args.text.now (c.args.at + 1)),
+  rw (sym c.digit_at-2.ensures ∙ c.in_ok-low.was) at (digit_small c.args.text.now (c.args.at + 2)),
+)
+
+pub overflow_mul-result : goal.overflow_mul-result
+overflow_mul-result c = omega (arith, small c)
+
+pub overflow_add-result : goal.overflow_add-result
+overflow_add-result c = omega (arith, small c)
 
 pub returns : goal.returns
 unfolding byte_at
-returns c =
-    rw (space_there (goal.at.returns c).Else-not-spaced, ← c.digit_at-high.ensures)
-    (rw (← c.digit_at-low.ensures, high_there (goal.at.returns c).Else-high-gt15, low_there c))
+returns c = grind (arith, common_steps)

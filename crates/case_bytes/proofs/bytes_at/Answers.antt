@@ -1,66 +1,44 @@
--- `case_bytes::bytes_at` meets its contract. The loop's invariant: so many bytes were read. The measure is the room
--- that is left. Assumes nothing.
-use Prim.Native.Nat.{◌<◌}
-use mathlib.Core.Path.{◌≡◌}
-use native.Mathlib.Omega.{arith}
-use lib.ListN.{length}
-use Rattle.case_bytes.specs.Images.{byte_at}
+-- `case_bytes::bytes_at` meets its contract. Assumes nothing.
+use Rattle.std.proofs.Common.{◌≡◌, length, arith, sym, ◌∙◌}
+use Rattle.std.proofs.lemmas.List.{set-get_or}
+use Rattle.std.proofs.lemmas.Grind.{common_steps}
+use Rattle.lists.specs.Lists.{over}
+use Rattle.case_bytes.specs.Images.{bytes_from}
 use Rattle.case_bytes.proofs.BytesInside.{byte_inside}
 use Rattle.case_bytes.proofs.BytesFrom.{filled_none, filled_length, filled_more, filled_stopped, filled_full}
 use Rattle.case_bytes.proofs.bytes_at.Goals as goal
-use Rattle.case_bytes.proofs.bytes_at.Goals.{At-loop-count}
+use Rattle.case_bytes.proofs.bytes_at.Goals.{In-Some, In_default, After-loop-count}
 
 pub loop-count-init : goal.loop-count-init
 loop-count-init c = filled_none _ _ _
 
--- the buffer is as long as it was
-long : (c : At-loop-count) → length c.loop-count.room ≡ length c.args.room.now
-long c = filled_length _ _ _ _ _ _ c.loop-count.invariant
+-- no byte stands there
+stopped : (c : In_default) → let all = bytes_from c.args.text.now (length c.args.room.now) c.args.at in
+    (c.loop-count.count ≡ length all) × (c.loop-count.room ≡ over all c.args.room.now)
+stopped c = filled_stopped _ _ _ _ _ _ c.loop-count.invariant (sym c.byte_at.ensures ∙ c.in_default.is)
 
-pub shape_of-room-then-byte-gt255 : goal.shape_of-room-then-byte-gt255
-shape_of-room-then-byte-gt255 c = long (goal.at.shape_of-room-then-byte-gt255 c).At-loop-count
+pub returns-in_default-clause-counted : goal.returns-in_default-clause-counted
+returns-in_default-clause-counted c = (stopped c).0
 
-pub returns-then-byte-gt255 : goal.returns-then-byte-gt255
-returns-then-byte-gt255 c =
-    let filled = c.loop-count.invariant in
-    let none = c.if-byte-gt255.true in
-    let all = filled_stopped _ _ _ _ _ _ filled (omega (arith, c.byte_at-byte.ensures)) in
-    record {
-      counted = all.0;
-      within = omega (arith, filled.within, long (goal.at.returns-then-byte-gt255 c).At-loop-count);
-      ended = filled.ended;
-      lent = all.1;
-    }
-
-pub bounds-room-count : goal.bounds-room-count
-bounds-room-count c = c.loop-count-test.true
+pub returns-in_default-clause-lent : goal.returns-in_default-clause-lent
+returns-in_default-clause-lent c = set-get_or _ _ _ ∙ (stopped c).1
 
 pub overflow_add-end : goal.overflow_add-end
 overflow_add-end c =
-    let text = c.args.text.now in
-    let end = c.loop-count.end in
-    let small : byte_at text end < 256 = omega (arith, c.byte_at-byte.ensures, c.if-byte-gt255.false) in
-    omega (arith, byte_inside text end small)
-
-pub loop-count-smaller : goal.loop-count-smaller
-loop-count-smaller c = omega (arith, long (goal.at.loop-count-smaller c).At-loop-count, c.loop-count-test.true)
+    omega (arith, byte_inside c.args.text.now c.loop-count.end (grind (arith, common_steps)))
 
 pub loop-count-preserved : goal.loop-count-preserved
 loop-count-preserved c =
     filled_more _ _ _ _ _ _ c.loop-count.invariant
-    (omega (arith, long (goal.at.loop-count-preserved c).At-loop-count, c.loop-count-test.true))
-    _ c.byte_at-byte.ensures (omega (arith, c.if-byte-gt255.false))
+    (omega (arith, filled_length _ _ _ _ _ _ c.loop-count.invariant)) _ (sym c.byte_at.ensures ∙ c.in-Some.is)
 
-pub shape_of-room : goal.shape_of-room
-shape_of-room c = long (goal.at.shape_of-room c).At-loop-count
+-- the room is full
+full : (c : After-loop-count) → let all = bytes_from c.args.text.now (length c.args.room.now) c.args.at in
+    (c.loop-count.count ≡ length all) × (c.loop-count.room ≡ over all c.args.room.now)
+full c = filled_full _ _ _ _ _ _ c.loop-count.invariant (omega arith)
 
-pub returns : goal.returns
-returns c =
-    let filled = c.loop-count.invariant in
-    let all = filled_full _ _ _ _ _ _ filled (omega (arith, long (goal.at.returns c).At-loop-count, c.loop-count-test.false)) in
-    record {
-      counted = all.0;
-      within = omega (arith, filled.within, long (goal.at.returns c).At-loop-count);
-      ended = filled.ended;
-      lent = all.1;
-    }
+pub returns-clause-counted : goal.returns-clause-counted
+returns-clause-counted c = omega (arith, c.loop-count.auto.room, (full c).0)
+
+pub returns-clause-lent : goal.returns-clause-lent
+returns-clause-lent c = (full c).1

@@ -1,16 +1,13 @@
--- `chains::read_chains` meets its contract. The loop's invariant, in each table of these tasks and labels: the chains
--- passed were taken, the array holds their lengths, and the rows hold their task numbers. Assumes nothing.
-use Prim.Native.Nat.{◌-◌, ◌≤◌, min}
-use Rattle.chain_steps.specs.Linked.{InEachLabelled}
+-- `chains::read_chains` meets its contract. The loop's invariant: the chains passed were taken, the table's array holds
+-- their lengths and the rows their task numbers, and nothing else of the table has changed. Assumes nothing.
+use mathlib.Core.Path.{◌≡◌}
+use Rattle.chains.specs.Parts.{lengthened}
 use Rattle.chains.proofs.ChainRows.{ChainsPassed}
 use Rattle.chains.proofs.read_chains.Given as goal
 
 abbrev pub invariant-loop-k : goal.invariant-loop-k
 invariant-loop-k l =
-    (l.k ≤ l.count)
-    × InEachLabelled l.tasks (min l.labels 64) l.writer l.readers
-    (λ table. ChainsPassed l.image l.at table l.initial.length l.initial.rows l.k l.length l.rows l.next)
-
-abbrev pub decreases-loop-k : goal.decreases-loop-k
-decreases-loop-k l =
-    l.count - l.k
+    (l.table ≡ lengthened l.initial.table l.table.length)
+    × (l.reader.image ≡ l.initial.reader.image)
+    × ChainsPassed l.initial.reader.image.now l.initial.reader.at l.initial.table l.initial.rows
+    l.k l.table.length l.rows l.reader.at

@@ -1,23 +1,23 @@
--- `fields::ranged`: each way out is one of the three ways that taking a field can go.
-use borrow.Author.Tests.{le-leb, lt-leb, le-ltb, lt-ltb}
+-- `fields::ranged`: each way out is one of the three ways that taking a field can go. Assumes nothing.
+use mathlib.Core.Path.{◌≡◌, sym, ap, ◌∙◌}
+use Rattle.std.proofs.Common.{rules, ◌+◌, min, Err}
 use Rattle.taking.proofs.FieldLaws.{field_ends, field_right, field_wrong}
-use Rattle.fields.proofs.GotLaws.{got_taken, got_refused}
+use Rattle.fields.specs.TakenTo.{taken_to}
+use Rattle.fields.proofs.Steps.{range_test}
 use Rattle.fields.proofs.ranged.Goals as goal
 
-pub returns-in_default : goal.returns-in_default
-returns-in_default c = got_refused _ _ _ _ (field_ends _ _ _ _ _ _ c.next_field-found.ensures c.in_default.is)
+pub returns-in_err-value-clause-taken : goal.returns-in_err-value-clause-taken
+returns-in_err-value-clause-taken c =
+    let handed : c.from_residual.result ≡ Err c.in_err-value.field-0.0 = search rules in
+    ap (taken_to (c.args.reader.now.at + min c.args.width 32)) handed ∙ field_ends _ _ _ _ _ (sym c.in_err-value.ensures.found)
 
-pub returns-then-value-bound : goal.returns-then-value-bound
-returns-then-value-bound c =
-    got_taken _ _ _ (field_right _ _ _ _ _ _ c.next_field-found.ensures _ c.in-Value.is
-    (rw (le-leb _ _ c.if-least-value.true, lt-ltb _ _ c.if-value-bound.true)))
+pub returns-then-contains-clause-taken : goal.returns-then-contains-clause-taken
+returns-then-contains-clause-taken c =
+    field_right _ _ _ _ _ _ (sym c.in_ok-value.ensures.found)
+    (sym (range_test c.args.range.start c.in_ok-value.value c.args.range.end) ∙ sym c.contains.ensures.value ∙ c.if-contains.true)
 
-pub returns-else-value-bound : goal.returns-else-value-bound
-returns-else-value-bound c =
-    got_refused _ _ _ _ (field_wrong _ _ _ _ _ _ c.next_field-found.ensures _ c.in-Value.is
-    (rw (le-leb _ _ c.if-least-value.true, le-ltb _ _ c.if-value-bound.false)))
-
-pub returns-else-least-value : goal.returns-else-least-value
-returns-else-least-value c =
-    got_refused _ _ _ _ (field_wrong _ _ _ _ _ _ c.next_field-found.ensures _ c.in-Value.is
-    (rw (lt-leb _ _ c.if-least-value.false)))
+pub returns-else-contains-clause-taken : goal.returns-else-contains-clause-taken
+returns-else-contains-clause-taken c =
+    rw c.place-place.ensures
+    (field_wrong _ _ _ _ _ _ (sym c.in_ok-value.ensures.found)
+    (sym (range_test c.args.range.start c.in_ok-value.value c.args.range.end) ∙ sym c.contains.ensures.value ∙ c.if-contains.false))

@@ -1,4 +1,5 @@
--- `first_line::hyperperiod`: asked of the table of an accepted image, or the image's refusal. Assumes nothing.
+-- `first_line::hyperperiod` meets its contract: asked of the table of an accepted image, or the image's refusal. Assumes
+-- nothing.
 use mathlib.Core.Path.{sym, ◌∙◌}
 use Rattle.times.specs.Rounds.{within_limit}
 use Rattle.table.specs.Table.{hyperperiod_of}
@@ -15,4 +16,4 @@ returns-in_default c =
 
 pub returns : goal.returns
 unfolding hyperperiod
-returns c = sym (refused_image _ _ c.read_table-read.ensures c.in-Refused.is _)
+returns c = sym (refused_image _ _ c.read_table-read.ensures c.in-Err.is _)

@@ -1,19 +1,17 @@
--- `images::read_rows`: the rows of an accepted image; of a refused one all are 0. Assumes nothing.
-use mathlib.Core.Path.{refl}
+-- `images::read_rows` meets its contract: the rows of an accepted image; of a refused one all are 0. Assumes nothing.
+use mathlib.Core.Path.{sym, ap}
 use Rattle.lists.specs.Lists.{padded}
 use Rattle.table.specs.Image.{rows_of}
-use Rattle.table.specs.Shown.{nothing, accepted_or, shown_of}
-use Rattle.fields.proofs.Steps.{taken, not_taken}
+use Rattle.table.specs.Shown.{nothing}
+use Rattle.images.proofs.WholeImage.{nothing_held, nothing_shown, whole_shown}
 use Rattle.images.proofs.read_rows.Goals as goal
 
-pub read_all-read-requires : goal.read_all-read-requires
-unfolding rows_of padded
-read_all-read-requires c = refl
+pub read_into-requires : goal.read_into-requires
+read_into-requires c = nothing_held c.empty-beside.ensures
 
 pub returns-in_default : goal.returns-in_default
-unfolding shown_of accepted_or nothing rows_of padded
-returns-in_default c = rw (not_taken _ _ c.in_default.is c.read_all-read.ensures.said)
+unfolding nothing rows_of padded
+returns-in_default c = sym (ap (λ whole. whole.rows) (nothing_shown _ c.in_default.ensures))
 
 pub returns : goal.returns
-unfolding shown_of accepted_or
-returns c = rw (taken _ c.in-Accepted.is c.read_all-read.ensures.said)
+returns c = sym (ap (λ whole. whole.rows) (whole_shown _ c.in-Ok.ensures))

@@ -1,22 +1,24 @@
--- `label_masks::read_by` meets its contract. The loop's invariant: the readers met hold the label, and the next one is
--- reached. Assumes nothing.
-use native.Mathlib.Omega.{arith}
-use Rattle.readers.proofs.Walk.{next_nearer}
-use Rattle.label_masks.proofs.LabelAdded.{added_none, added_more, added_all}
+-- `label_masks::read_by` meets its contract. The loop's invariant: those of the readers met that are among the first
+-- tasks hold the label. Assumes nothing.
+use mathlib.Core.Path.{◌∙◌}
+use Rattle.readers.proofs.InTurn.{among_readers}
+use Rattle.label_masks.proofs.LabelAdded.{added_none, added_more, added_past, added_all}
 use Rattle.label_masks.proofs.read_by.Goals as goal
 
-pub loop-r-init : goal.loop-r-init
-loop-r-init c = added_none _ _ _ _ c.next_reader-r.ensures
+pub loop-reader-init : goal.loop-reader-init
+loop-reader-init c = added_none _ _ _
 
-pub loop-r-smaller : goal.loop-r-smaller
-loop-r-smaller c =
-    let few = c.requires.1 in
-    next_nearer _ (omega arith) c.next_reader-r-in-loop-r.ensures
-
-pub loop-r-preserved : goal.loop-r-preserved
-loop-r-preserved c =
+pub loop-reader-preserved-then-r-tasks : goal.loop-reader-preserved-then-r-tasks
+loop-reader-preserved-then-r-tasks c =
+    let added = c.loop-reader.invariant in
     let (label, tasks, long) = c.requires in
-    added_more _ _ _ c.loop-r.invariant tasks long (omega arith) label c.next_reader-r-in-loop-r.ensures
+    added_more _ _ _ _ _ c.if-r-tasks.true c.in-Some.ensures.steps.1 label (added.long ∙ long) added
+
+pub loop-reader-preserved : goal.loop-reader-preserved
+loop-reader-preserved c = added_past _ _ _ _ _ c.if-r-tasks.false c.loop-reader.invariant
 
 pub returns : goal.returns
-returns c = added_all _ _ _ c.loop-r.invariant (omega arith)
+returns c =
+    let whole = c.into_iter-reader-iterator.ensures.into_iter_gives ∙ c.readers-reader-items.ensures in
+    added_all _ _ _ _ _ c.loop-reader.invariant
+    (among_readers _ _ _ whole c.loop-reader.yielded_by c.in-None.ensures.steps)

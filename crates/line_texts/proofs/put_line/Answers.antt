@@ -1,12 +1,6 @@
 -- `line_texts::put_line` meets its contract. Assumes nothing.
-use Rattle.texts.proofs.Putting.{puts_then, puts_length}
+use Rattle.texts.proofs.Putting.{put_then}
 use Rattle.line_texts.proofs.put_line.Goals as goal
 
 pub returns : goal.returns
-returns c =
-    let byte = c in
-    puts_then byte.put_named-next.ensures byte.put_byte.ensures
-
-pub shape_of-bytes : goal.shape_of-bytes
-shape_of-bytes c =
-    puts_length (returns c)
+returns c = put_then c.put_named.ensures c.put_byte.ensures

@@ -1,12 +1,6 @@
 -- `line_texts::put_part` meets its contract. Assumes nothing.
-use Rattle.texts.proofs.Putting.{puts_then, puts_length}
+use Rattle.texts.proofs.Putting.{put_then}
 use Rattle.line_texts.proofs.put_part.Goals as goal
 
 pub returns : goal.returns
-returns c =
-    let part = c in
-    puts_then part.put_byte-next.ensures part.put_named.ensures
-
-pub shape_of-bytes : goal.shape_of-bytes
-shape_of-bytes c =
-    puts_length (returns c)
+returns c = put_then c.put_byte.ensures (rw c.from.ensures at c.put_named.ensures)

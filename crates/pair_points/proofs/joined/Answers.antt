@@ -1,42 +1,33 @@
--- `pair_points::joined` meets its contract. The loop's invariant: no label passed goes from the one task to the
--- other. The measure is the number of labels left. Assumes nothing.
-use Prim.Native.Nat.{◌<◌, min}
-use mathlib.Core.Path.{◌≡◌, refl, sym, ap, ◌∙◌}
-use native.Mathlib.Numerals.{add-one}
-use native.Mathlib.Omega.{arith}
-use lib.ListN.{length}
+-- `pair_points::joined` meets its contract. Assumes nothing.
+use Rattle.std.proofs.Common.{◌≡◌, ◌<◌, min, length, refl, sym, ap, ◌∙◌, add-one, arith}
 use Rattle.lists.specs.Lists.{some_below}
 use Rattle.lists.proofs.Lists.{some_below_found}
+use Rattle.table.specs.Table.{writer_of, reads, joins}
 use Rattle.pair_points.specs.Parts.{goes_from}
 use Rattle.pair_points.proofs.WithinArrays.{joined_within_arrays}
 use Rattle.pair_points.proofs.joined.Goals as goal
-use Rattle.pair_points.proofs.joined.Goals.{After-held-count}
 
 pub loop-l-init : goal.loop-l-init
 unfolding some_below
-loop-l-init c = (omega arith, refl)
-
-pub returns-then-goes : goal.returns-then-goes
-returns-then-goes c =
-    let loop = c.loop-l in
-    let start = c in
-    let inside : loop.l < start.args.labels = omega arith in
-    sym (some_below_found start.args.labels _ loop.l inside (sym c.goes.ensures ∙ c.if-goes.true))
+loop-l-init c = refl
 
 pub loop-l-preserved : goal.loop-l-preserved
 unfolding some_below
-loop-l-preserved c =
-    (omega arith, rw (add-one, c.loop-l.invariant.1) (sym c.goes.ensures ∙ c.if-goes.false))
+loop-l-preserved c = rw (add-one, c.loop-l.invariant) (sym c.goes.ensures ∙ c.if-goes.false)
 
--- what the function is told of its array
-length_readers : (c : After-held-count) → length c.args.readers ≡ 64
-length_readers c = omega arith
+pub returns-then-goes : goal.returns-then-goes
+unfolding joins writer_of reads
+returns-then-goes c =
+    let l = c.loop-l.l in
+    let inside : l < c.args.table.now.labels = omega (arith, c.min-l-end.ensures) in
+    sym (some_below_found c.args.table.now.labels _ l inside (sym c.goes.ensures ∙ c.if-goes.true))
 
 pub returns : goal.returns
+unfolding joins writer_of reads
 returns c =
-    let loop = c.loop-l in
-    let args = c.args in
-    let all : loop.l ≡ min args.labels 64 = omega arith in
-    sym loop.invariant.1
-    ∙ ap (λ k. some_below k (goes_from args.writer args.readers args.w args.r)) all
-    ∙ joined_within_arrays args.writer args.readers args.w args.r (length_readers (goal.at.returns c).After-held-count) args.labels
+    let table = c.args.table.now in
+    let all : c.loop-l.l ≡ min table.labels 64 = omega (arith, c.min-l-end.ensures, c.loop-l.auto.l-end) in
+    let long : length table.readers ≡ 64 = omega arith in
+    sym c.loop-l.invariant
+    ∙ ap (λ k. some_below k (goes_from table.writer table.readers c.args.w c.args.r)) all
+    ∙ joined_within_arrays table.writer table.readers c.args.w c.args.r long table.labels

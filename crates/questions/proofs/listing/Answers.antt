@@ -1,39 +1,35 @@
 -- `questions::listing` meets its contract. Assumes nothing.
 use mathlib.Core.Path.{sym, ap, ◌∙◌}
 use Rattle.questions.specs.Questions.{bytes_listed, core_listed, lent_after, listing}
-use Rattle.images.proofs.Asked.{refused_image, accepted_image}
-use Rattle.questions.proofs.AskedArrays.{beside, arrays_list}
+use Rattle.questions.proofs.AcceptedRight.{accepted_right, accepted_asked, refused_asked}
+use Rattle.images.proofs.WholeImage.{nothing_held}
 use Rattle.questions.proofs.listing.Goals as goal
 
+pub read_into-answer-requires : goal.read_into-answer-requires
+read_into-answer-requires c = nothing_held c.empty-table.ensures
+
 pub core_listed-requires : goal.core_listed-requires
-core_listed-requires c =
-    let told = c in
-    let shown = told.read_arrays-read.ensures in
-    (_, shown.cores, arrays_list _ shown c.in_default.is)
+core_listed-requires c = accepted_right _ c.in-Ok.ensures
 
-pub returns-in_default : goal.returns-in_default
+pub returns-clause-said : goal.returns-clause-said
 unfolding listing
-returns-in_default c =
-    let asked = c in
-    let told = asked in
-    let shown = told in
-    let start = shown in
-    let same = sym (accepted_image _ _ (beside _ shown.read_arrays-read.ensures) c.in_default.is
-    (λ table. core_listed table start.args.core _)) in
-    let answered = asked.core_listed.ensures _ shown.read_arrays-read.ensures.cores (arrays_list _ shown.read_arrays-read.ensures c.in_default.is) in
-    record {
-      said = answered.0 ∙ ap bytes_listed same;
-      lent = answered.1 ∙ ap (λ outcome. lent_after outcome start.args.buffer.now) same;
-    }
+returns-clause-said c =
+    c.core_listed.ensures.0 ∙ ap bytes_listed (sym (accepted_asked _ c.in-Ok.ensures (λ whole. core_listed whole.table c.args.core _)))
 
-pub returns : goal.returns
-unfolding listing bytes_listed lent_after
-returns c =
-    let shown = c in
-    let start = shown in
-    let same = sym (refused_image _ _ (beside _ shown.read_arrays-read.ensures) c.in-Refused.is
-    (λ whole. core_listed whole.table start.args.core _)) in
-    record {
-      said = ap bytes_listed same;
-      lent = ap (λ outcome. lent_after outcome start.args.buffer.now) same;
-    }
+pub returns-clause-lent : goal.returns-clause-lent
+unfolding listing
+returns-clause-lent c =
+    c.core_listed.ensures.1
+    ∙ ap (λ outcome. lent_after outcome c.args.buffer.now)
+    (sym (accepted_asked _ c.in-Ok.ensures (λ whole. core_listed whole.table c.args.core _)))
+
+pub returns-in_default-clause-said : goal.returns-in_default-clause-said
+unfolding listing bytes_listed
+returns-in_default-clause-said c =
+    sym (ap bytes_listed (refused_asked _ (c.read_into-answer.ensures) c.unwrap_err.ensures (λ whole. core_listed whole.table c.args.core _)))
+
+pub returns-in_default-clause-lent : goal.returns-in_default-clause-lent
+unfolding listing lent_after
+returns-in_default-clause-lent c =
+    sym (ap (λ outcome. lent_after outcome c.args.buffer.now)
+    (refused_asked _ c.read_into-answer.ensures c.unwrap_err.ensures (λ whole. core_listed whole.table c.args.core _)))

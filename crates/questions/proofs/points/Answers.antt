@@ -6,11 +6,8 @@ use Rattle.questions.proofs.points.Goals as goal
 
 pub returns-in_default : goal.returns-in_default
 unfolding points
-returns-in_default c =
-    c.points_of.ensures
-    ∙ sym (accepted_image _ _ c.read_table-read.ensures
-    c.in_default.is _)
+returns-in_default c = c.points_of.ensures ∙ sym (accepted_image _ _ c.read_table-read.ensures c.in_default.is _)
 
 pub returns : goal.returns
 unfolding points
-returns c = sym (refused_image _ _ c.read_table-read.ensures c.in-Refused.is _)
+returns c = sym (refused_image _ _ c.read_table-read.ensures c.in-Err.is _)

@@ -5,5 +5,5 @@ use Rattle.table.proofs.goes.Goals as goal
 pub returns-then-writer-w : goal.returns-then-writer-w
 returns-then-writer-w c = rw (eq-eqb _ _ c.if-writer-w.true) c.marked.ensures
 
-pub returns : goal.returns
-returns c = rw (ne_eqb _ _ c.if-writer-w.false)
+pub returns-else-writer-w : goal.returns-else-writer-w
+returns-else-writer-w c = rw (ne_eqb _ _ c.if-writer-w.false)

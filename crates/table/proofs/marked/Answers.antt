@@ -7,6 +7,6 @@ pub returns-then-i-lt32 : goal.returns-then-i-lt32
 unfolding marks
 returns-then-i-lt32 c = rw (lt-ltb _ 32 c.if-i-lt32.true)
 
-pub returns : goal.returns
+pub returns-else-i-lt32 : goal.returns-else-i-lt32
 unfolding marks
-returns c = rw (le-ltb _ 32 c.if-i-lt32.false)
+returns-else-i-lt32 c = rw (le-ltb _ 32 c.if-i-lt32.false)

@@ -1,51 +1,81 @@
--- `all_fields::endings::read_fill`: each bit of the fill is 0 or refused, and then bytes follow or none. Assumes nothing.
-use Prim.Native.Nat.{ℕ, ◌+◌}
-use mathlib.Core.Path.{◌≡◌, sym, ◌∙◌}
+-- `all_fields::endings::read_fill` meets its contract: each bit of the fill is 0 or refused, and then bytes follow or none.
+-- Assumes nothing.
+use Prim.Native.Nat.{ℕ, ◌+◌, ◌-◌, ◌<◌}
+use mathlib.Core.Path.{◌≡◌, refl, sym, ap, ap₂, ◌∙◌}
 use mathlib.Core.List.{List}
 use native.Mathlib.Omega.{arith}
 use lib.Dec.{eqb}
+use lib.ListN.{length}
+use Rattle.std.proofs.Common.{rules, Err}
+use Rattle.outcomes.specs.Outcome.{refuses}
 use Rattle.taking.specs.Reading.{field, fill_bits}
+use Rattle.taking.proofs.Filling.{no_bit_passed, bit_passed, fill_refused, bytes_follow, nothing_follows_lem}
+use Rattle.table.specs.Refusals.{said_of}
 use Rattle.table.specs.Image.{fill}
-use Rattle.fields.specs.declared.Got.{Got}
-use Rattle.fields.specs.GotField.{got, in_range, GotField}
-use Rattle.fields.proofs.Steps.{taken, not_taken, still_refused, by_test, range_is_zero}
-use Rattle.taking.proofs.Filling.{no_bit_passed, bit_passed, fill_refused, bytes_follow}
-use Rattle.taking.proofs.Filling.{nothing_follows_lem}
+use Rattle.fields.proofs.Steps.{gives_to, range_is_zero}
+use Rattle.fields.specs.TakenTo.{in_range}
 use Rattle.all_fields.proofs.endings.read_fill.Goals as goal
 
--- what was said of a bit
-bit_said : (image : List ℕ) (place : ℕ) (bit : Got)
-    → GotField (field 1 9 (in_range 0 1) image place) (place + 1) bit
-    → got bit (place + 1) ≡ field 1 9 (λ bit. eqb bit 0) image place
-bit_said image place bit read = by_test _ _ _ _ range_is_zero read.said
+-- a bit of the fill, where the reader stands
+bit_there : {image image' : List ℕ} {at at' : ℕ} → image' ≡ image → at' ≡ at
+    → field 1 9 (λ bit. eqb bit 0) image at ≡ field 1 9 (in_range 0 1) image' at'
+bit_there {image' = image'} {at' = at'} of_image of_place =
+    sym (ap₂ (λ image at. field 1 9 (λ bit. eqb bit 0) image at) of_image of_place)
+    ∙ ap (λ test. field 1 9 test image' at') (sym range_is_zero)
 
-pub loop-i-init : goal.loop-i-init
-loop-i-init c = (omega arith, no_bit_passed _ _ _)
+pub loop-init : goal.loop-init
+loop-init c =
+    let at = c.args.reader.now.at in
+    let none : c.place-start.result - at ≡ 0 = omega arith in
+    record {
+      passed = rw none (no_bit_passed _ _ _);
+      on = sym c.place-start.ensures;
+      image = refl;
+    }
 
-pub returns-in_default : goal.returns-in_default
+pub returns-in_err-ranged : goal.returns-in_err-ranged
 unfolding fill
-returns-in_default c =
-    let told = c.in_default.is in
-    still_refused _ _ told
-    ∙ sym (rw (fill_refused _ _ _ c.loop-i.invariant.1 c.loop-i-test.true
-    (not_taken _ _ told (bit_said _ _ _ c.ranged-bit.ensures))))
+returns-in_err-ranged c =
+    let handed : c.from_residual.result ≡ Err c.in_err-ranged.field-0.0 = search rules in
+    let passed = c.loop.invariant in
+    let at = c.args.reader.now.at in
+    let more : c.loop.counter - at < fill_bits at = omega arith in
+    let place : c.loop.reader.at ≡ at + (c.loop.counter - at) = omega arith in
+    ap said_of handed
+    ∙ sym (rw (fill_refused _ _ _ passed.passed more
+    (bit_there (ap (λ image. image.now) passed.image) place ∙ sym c.in_err-ranged.ensures.taken)))
 
-pub loop-i-preserved : goal.loop-i-preserved
-loop-i-preserved c = (
-  omega arith,
-  bit_passed _ _ _ c.loop-i.invariant.1 _ (taken _ c.in-Accepted.is (bit_said _ _ _ c.ranged-bit.ensures)),
-)
+pub loop-preserved : goal.loop-preserved
+loop-preserved c =
+    let passed = c.loop.invariant in
+    let at = c.args.reader.now.at in
+    let place : c.loop.reader.at ≡ at + (c.loop.counter - at) = omega arith in
+    let next : c.loop.counter + 1 - at ≡ c.loop.counter - at + 1 = omega arith in
+    record {
+      passed = rw next (bit_passed _ _ _ passed.passed c.in_ok-ranged.field-0
+          (bit_there (ap (λ image. image.now) passed.image) place ∙ sym c.in_ok-ranged.ensures.taken
+          ∙ gives_to _ (ap (λ place. place + 1) place)));
+      on = omega (arith, c.in_ok-ranged.ensures.on, passed.on);
+      image = c.in_ok-ranged.ensures.image ∙ passed.image;
+    }
 
-pub returns-then-at-count : goal.returns-then-at-count
+pub returns-then-place-reader : goal.returns-then-place-reader
 unfolding fill
-returns-then-at-count c =
-    let at = c.args.at in
-    let all : c.loop-i.i ≡ fill_bits at = omega arith in
-    rw (bytes_follow 9 _ at c.loop-i.invariant.1 all (omega arith), all)
+returns-then-place-reader c =
+    let passed = c.loop.invariant in
+    let at = c.args.reader.now.at in
+    let all : c.loop.counter - at ≡ fill_bits at = omega arith in
+    let long : length c.loop.reader.image.now ≡ length c.args.reader.now.image.now =
+    ap (λ image. length image.now) passed.image in
+    let place : c.place-place.result ≡ at + (c.loop.counter - at) = omega arith in
+    rw (bytes_follow 9 _ _ passed.passed all (omega arith)) (ap (λ place. refuses 9 place) place)
 
 pub returns : goal.returns
 unfolding fill
 returns c =
-    let at = c.args.at in
-    let all : c.loop-i.i ≡ fill_bits at = omega arith in
-    rw (nothing_follows_lem 9 _ at c.loop-i.invariant.1 all (omega arith))
+    let passed = c.loop.invariant in
+    let at = c.args.reader.now.at in
+    let all : c.loop.counter - at ≡ fill_bits at = omega arith in
+    let long : length c.loop.reader.image.now ≡ length c.args.reader.now.image.now =
+    ap (λ image. length image.now) passed.image in
+    rw (nothing_follows_lem 9 _ _ passed.passed all (omega arith))

@@ -2,10 +2,10 @@
 use Rattle.counters.specs.Advanced.{point_after}
 use Rattle.counters.proofs.one.point_after.Goals as goal
 
-pub returns-then-reads : goal.returns-then-reads
+pub returns-in-Publishing : goal.returns-in-Publishing
 unfolding point_after
-returns-then-reads c = rw c.if-reads.true c.reading_after.ensures
+returns-in-Publishing c = rw c.in-Publishing.is c.publishing_after.ensures
 
-pub returns-else-reads : goal.returns-else-reads
+pub returns-in-Reading : goal.returns-in-Reading
 unfolding point_after
-returns-else-reads c = rw c.if-reads.false c.publishing_after.ensures
+returns-in-Reading c = rw c.in-Reading.is c.reading_after.ensures

@@ -1,17 +1,11 @@
 -- `frame_texts::parts::put_read` meets its contract. Assumes nothing.
 use Rattle.printing.specs.Printed.{copy_text}
-use Rattle.texts.proofs.Putting.{puts_then, puts_length}
+use Rattle.texts.proofs.Putting.{put_then}
 use Rattle.frame_texts.proofs.parts.put_read.Goals as goal
 
 pub returns : goal.returns
 unfolding copy_text
 returns c =
-    let reader = c in
-    let colon = reader in
-    let label = colon in
-    puts_then (puts_then label.put_word-first.ensures label.put_number-second.ensures)
-    (puts_then colon.put_byte-third.ensures reader.put_number.ensures)
-
-pub shape_of-bytes : goal.shape_of-bytes
-shape_of-bytes c =
-    puts_length (returns c)
+    let label = rw c.from.ensures at c.put_number.ensures in
+    let reader = rw c.from-2.ensures at c.put_number-2.ensures in
+    put_then (put_then c.put_word.ensures label) (put_then c.put_byte.ensures reader)

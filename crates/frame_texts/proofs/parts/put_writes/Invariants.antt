@@ -1,12 +1,10 @@
--- `frame_texts::parts::put_writes` meets its contract. The loop's invariant: the writes of the labels passed were put.
--- Assumes nothing.
-use Prim.Native.Nat.{ℕ, ◌^◌, ◌<◌}
-use mathlib.Core.Path.{◌≡◌}
+-- `frame_texts::parts::put_writes` meets its contract. The loop's invariant: the writes of the labels met were put. Assumes
+-- nothing.
+use Prim.Native.Nat.{ℕ}
 use mathlib.Core.List.{List, [], ◌∷◌}
-use lib.ListN.{length}
+use Rattle.lists.specs.Lists.{each_of}
 use Rattle.copies.specs.Copies.{Copy, write}
 use Rattle.instants.specs.Due.{writer_due}
-use Rattle.instants.proofs.LabelsPut.{PutBefore}
 use Rattle.frame_texts.proofs.CopiesPut.{PutsCopies}
 use Rattle.frame_texts.proofs.parts.put_writes.Given as goal
 
@@ -14,11 +12,5 @@ use Rattle.frame_texts.proofs.parts.put_writes.Given as goal
 abbrev pub one : List ℕ → ℕ → List Copy
 one writer l = write l (writer_due writer l) ∷ []
 
-abbrev pub invariant-loop-rest : goal.invariant-loop-rest
-invariant-loop-rest l =
-    (length l.bytes ≡ length l.initial.bytes)
-    × (l.rest < 2 ^ 64)
-    × ((writer : List ℕ) → PutBefore (one writer) (PutsCopies l.initial.bytes l.bytes l.at l.next) l.written l.rest)
-
-abbrev pub decreases-loop-rest : goal.decreases-loop-rest
-decreases-loop-rest l = l.rest
+abbrev pub invariant-loop-label : goal.invariant-loop-label
+invariant-loop-label l = (writer : List ℕ) → PutsCopies l.initial.text l.text (each_of l.yielded (one writer))

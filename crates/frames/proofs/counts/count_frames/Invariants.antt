@@ -1,23 +1,17 @@
--- `frames::counts::count_frames` meets its contract. The loop's invariant: no more frames than ticks were passed and,
--- of a right table with these arrays, so many frames and copies were passed, and the counters are ready. Assumes nothing.
-use Prim.Native.Nat.{ℕ, ◌-◌, ◌*◌, ◌≤◌}
-use mathlib.Core.Path.{◌≡◌}
-use lib.ListN.{length}
-use Rattle.table.specs.declared.Table.{Table}
-use Rattle.frames.specs.Counts.{RightRound}
-use Rattle.frames.specs.Ready.{GoesOver, Ready}
+-- `frames::counts::count_frames` meets its contract. The loop's invariant: no more frames than ticks were passed and, where
+-- the counters of a core were ready, so many frames and copies of it. Assumes nothing.
+use Prim.Native.Nat.{ℕ, ◌*◌, ◌≤◌}
+use Rattle.frames.specs.Walk.{Starts, Walks, WentOn}
 use Rattle.frames.proofs.Counted.{CountedTo}
 use Rattle.frames.proofs.counts.count_frames.Given as goal
 
-abbrev pub invariant-loop-t : goal.invariant-loop-t
-invariant-loop-t l =
-    (length l.publishing ≡ length l.initial.publishing)
-    × (length l.reading ≡ length l.initial.reading)
-    × (l.frames ≤ l.t)
-    × (l.copies ≤ 65600 * l.t)
-    × ((table : Table) (core : ℕ) → RightRound table l.round → GoesOver table l.periods l.written l.read
-    → Ready table core 0 l.initial.publishing l.initial.reading
-    → Ready table core l.t l.publishing l.reading × CountedTo table core l.t l.frames l.copies)
-
-abbrev pub decreases-loop-t : goal.decreases-loop-t
-decreases-loop-t l = l.round - l.t
+abbrev pub invariant-loop-due : goal.invariant-loop-due
+invariant-loop-due l =
+    let first = l.initial.due-iterator in
+    let walk = l.due-iterator in
+    (goal.iterator-loop-due).can_next walk
+    × (goal.iterator-loop-due).is_finite walk
+    × WentOn first walk
+    × (l.frames ≤ walk.t)
+    × (l.copies ≤ 65600 * walk.t)
+    × ((core : ℕ) → Starts core first → Walks core walk × CountedTo first.table.now core walk.t l.frames l.copies)

@@ -7,7 +7,7 @@ returns c =
     let reads = c.advance_reads-reads.ensures in
     let writes = c.advance_writes-writes.ensures in
     let many = c.how_many.ensures in record {
-      due = rw (c.earlier.ensures, many.0, writes.due, reads.due);
+      due = rw (c.min.ensures, many.0, writes.due, reads.due);
       gone = (writes.gone, reads.gone);
       few = (omega (arith, many.1, reads.few), many.2);
     }

@@ -1,130 +1,64 @@
--- `framing::written::write_frames` meets its contract. The loop's invariant: of a right table with these arrays, the
--- frames before the instant were put, and the counters are ready. Assumes nothing.
-use Prim.Native.Nat.{ℕ}
-use mathlib.Core.Path.{◌≡◌, refl, ap, ◌∙◌}
+-- `framing::written::write_frames` meets its contract. The loop's invariant: where the counters of a core were ready, its
+-- frames that were passed were put. Assumes nothing.
+use mathlib.Core.Path.{◌≡◌, ap, ◌∙◌}
 use native.Mathlib.Omega.{arith}
 use lib.ListN.{length}
-use Rattle.table.specs.declared.Table.{Table}
-use Rattle.copies.specs.Copies.{copies_at}
+use Rattle.lists.specs.Lists.{each_of}
+use Rattle.copies.specs.Copies.{frames_of}
+use Rattle.copies.specs.Listing.{frame_fields}
 use Rattle.listings.proofs.NumbersFit.{few_copies}
-use Rattle.frames.specs.Counts.{RightRound}
-use Rattle.frames.specs.Ready.{GoesOver, Ready}
-use Rattle.frames.proofs.ReadyTurn.{ReadyTurn, ready_turn}
-use Rattle.framing.proofs.PutFrames.{put_none, put_all, put_frame, put_same}
+use Rattle.frames.proofs.Walking.{passing_none, went_on_then}
+use Rattle.framing.proofs.PutFrames.{put_none, put_frame}
 use Rattle.framing.proofs.written.write_frames.Goals as goal
-use Rattle.framing.proofs.written.write_frames.Goals.{After-instant_at-due, Joined-count-gt0, then-count-gt0, else-count-gt0}
+use Rattle.framing.proofs.written.write_frames.Goals.{After-into_iter-start-iterator}
 
-pub loop-t-init : goal.loop-t-init
-loop-t-init c = (refl, refl, refl, λ table core right same over ready. (ready, put_none table core _ _))
-
--- of a right table with these arrays, the turn from this instant to the next, with its copies counted
-module _ (c : After-instant_at-due) where
-  module _ (table : Table) (core : ℕ) (right : RightRound table c.args.round)
-      (same : (c.args.writer.now ≡ table.writer) × (c.args.readers.now ≡ table.readers))
-      (over : GoesOver table c.args.periods.now c.args.written.now c.args.read.now)
-      (ready : Ready table core 0 c.args.publishing.now c.args.reading.now)
-    where
-      turned : ReadyTurn table core c.loop-t.t c.args.periods.now c.args.written.now
-          c.args.read.now c.loop-t.publishing c.loop-t.reading
-      turned =
-          let is = right.is in
-          ready_turn table core _ _ _ right.right (omega arith)
-          (c.loop-t.invariant.3 table core right same over ready).0 over
-
-      counted : c.instant_at-due.result.copies ≡ length (copies_at table core c.loop-t.t)
-      counted =
-          let due = c.instant_at-due.ensures.due in
-          ap (λ r. r.copies) due ∙ turned.many (rw due at c.instant_at-due.ensures.few.1)
-
--- the lent bytes and the counters stay as many
-kept : (c : Joined-count-gt0)
-    →
-    (length c.if-count-gt0.bytes ≡ length c.args.bytes.now)
-    × (length c.instant_at-due.new.publishing ≡ length c.args.publishing.now)
-    × (length c.instant_at-due.new.reading ≡ length c.args.reading.now)
-kept c =
-    let inv = c.loop-t.invariant in (
-      elim c.if-count-gt0.branch [
-        | then-count-gt0 w ↦ ap length w.bytes-is ∙ w.write_frame-ink.auto.bytes ∙ inv.0
-        | else-count-gt0 w ↦ ap length w.bytes-is ∙ inv.0
-      ],
-      c.instant_at-due.auto.publishing ∙ inv.1,
-      c.instant_at-due.auto.reading ∙ inv.2,
+pub loop-start-init : goal.loop-start-init
+loop-start-init c =
+    let first = c.into_iter-start-iterator.result in
+    let gives = c.into_iter-start-iterator.ensures.into_iter_gives in
+    let few = ap (λ r. length r.reading.now) gives in
+    let new = c.new-start-items.ensures.few in (
+      omega (arith, c.requires),
+      tt,
+      (passing_none first).went_on,
+      λ core starts. (starts.walks, put_none first.table.now core _ _ first.t starts.none),
     )
 
-pub loop-t-preserved : goal.loop-t-preserved
-loop-t-preserved c =
-    let inst = (goal.at.loop-t-preserved c).After-instant_at-due in
-    let due = inst.instant_at-due.ensures.due in
-    let gone = inst.instant_at-due.ensures.gone in
-    let long = kept (goal.at.loop-t-preserved c).Joined-count-gt0 in (
-      long.0,
-      long.1,
-      long.2,
-      λ table core right same over ready.
-          let turn = turned inst table core right same over ready in
-          let before = (inst.loop-t.invariant.3 table core right same over ready).1 in
-          let is = counted inst table core right same over ready in
-          let meets = right.right.meets in
-          let round = meets.hyperperiod in
-          let is_round = right.is in
-          let few = few_copies (record { table = table; rows = right.right.rows }) meets core inst.loop-t.t in
-          rw (due, gone.0, gone.1) (
-            turn.ready,
-            elim c.if-count-gt0.branch [
-              | then-count-gt0 w ↦ rw (w.bytes-is, w.ink-is) (
-                  put_frame table core _ _ before turn.turn is w.if-count-gt0.true
-                  (rw (
-                    ap (λ r. r.serves) due,
-                    ap (λ r. r.written) due,
-                    ap (λ r. r.read) due,
-                    same.0,
-                    same.1,
-                    turn.copies,
-                  ) at
-                  (w.write_frame-ink.ensures (omega arith) (omega (arith, is, few))))
-                  )
-              | else-count-gt0 w ↦
-                  rw (w.bytes-is, w.ink-is) (put_same table core _ _ before turn.turn is (omega (arith, w.if-count-gt0.false)))
-            ],
+-- the walk is over the table
+first_table : (c : After-into_iter-start-iterator) → c.into_iter-start-iterator.result.table.now ≡ c.args.table.now
+first_table c = ap (λ r. r.table.now) c.into_iter-start-iterator.ensures.into_iter_gives ∙ c.new-start-items.ensures.of_table
+
+pub loop-start-preserved : goal.loop-start-preserved
+loop-start-preserved c =
+    let inv = c.loop-start.invariant in
+    let steps = c.in-Some.ensures.steps in
+    let long = steps.went_on.reading_long in (
+      omega (arith, inv.0),
+      tt,
+      went_on_then inv.2 steps.went_on,
+      λ core starts.
+          let before = inv.3 core starts in
+          let next = steps.frame core before.0 in
+          let same = inv.2.same_table in
+          let right = before.0.right in
+          let is = right.is in
+          let round = right.right.meets.hyperperiod in
+          let few = few_copies (record { table = c.loop-start.start-iterator.table.now; rows = right.right.rows })
+          right.right.meets core c.in-Some.start in
+          let inside = next.inside in
+          let of_table = same ∙ first_table (goal.at.loop-start-preserved c).After-into_iter-start-iterator in (
+            next.walks,
+            put_frame _ core _ _ _ c.in-Some.start _ before.1 (rw same at next.passed) (rw same at next.many)
+                (rw (← of_table, next.copies, same) at
+                (c.write_frame-ink.ensures (omega arith) (omega (arith, next.many, few)))),
           ),
     )
 
-pub returns-then-next-t : goal.returns-then-next-t
-returns-then-next-t c table core right same over ready =
-    let inst = (goal.at.returns-then-next-t c).After-instant_at-due in
-    let due = ap (λ r. r.next) inst.instant_at-due.ensures.due in
-    absurd (omega (arith, due, (turned inst table core right same over ready).turn.later, c.if-next-t.true))
-
 pub returns : goal.returns
-returns c table core right same over ready =
-    let is = right.is in
-    put_all table core _ _ (omega arith) (c.loop-t.invariant.3 table core right same over ready).1
-
-pub instant_at-due-requires : goal.instant_at-due-requires
-instant_at-due-requires c =
-    omega (arith, c.requires, c.loop-t.invariant.2)
-
-pub shape_of-bytes-then-next-t : goal.shape_of-bytes-then-next-t
-shape_of-bytes-then-next-t c =
-    (kept (goal.at.shape_of-bytes-then-next-t c).Joined-count-gt0).0
-
-pub shape_of-publishing-then-next-t : goal.shape_of-publishing-then-next-t
-shape_of-publishing-then-next-t c =
-    (kept (goal.at.shape_of-publishing-then-next-t c).Joined-count-gt0).1
-
-pub shape_of-reading-then-next-t : goal.shape_of-reading-then-next-t
-shape_of-reading-then-next-t c =
-    (kept (goal.at.shape_of-reading-then-next-t c).Joined-count-gt0).2
-
-pub shape_of-bytes : goal.shape_of-bytes
-shape_of-bytes c =
-    c.loop-t.invariant.0
-
-pub shape_of-publishing : goal.shape_of-publishing
-shape_of-publishing c =
-    c.loop-t.invariant.1
-
-pub shape_of-reading : goal.shape_of-reading
-shape_of-reading c =
-    c.loop-t.invariant.2
+returns c core right masks ready =
+    let inv = c.loop-start.invariant in
+    let first = (goal.at.returns c).After-into_iter-start-iterator in
+    let starts = c.new-start-items.ensures.starts core right masks ready in
+    let last = inv.3 core (rw c.into_iter-start-iterator.ensures.into_iter_gives starts) in
+    let all = rw inv.2.same_table at (c.in-None.ensures.steps.frame core last.0) in
+    rw (ap (λ t. each_of (frames_of t core) frame_fields) (first_table first)) at (rw all at last.1)

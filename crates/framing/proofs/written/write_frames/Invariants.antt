@@ -1,23 +1,16 @@
--- `framing::written::write_frames` meets its contract. The loop's invariant: of a right table with these arrays, the
--- frames before the instant were put, and the counters are ready. Assumes nothing.
-use Prim.Native.Nat.{ℕ, ◌-◌}
-use mathlib.Core.Path.{◌≡◌}
-use lib.ListN.{length}
-use Rattle.table.specs.declared.Table.{Table}
-use Rattle.frames.specs.Counts.{RightRound}
-use Rattle.frames.specs.Ready.{GoesOver, Ready}
+-- `framing::written::write_frames` meets its contract. The loop's invariant: where the counters of a core were ready, its
+-- frames that were passed were put. Assumes nothing.
+use Prim.Native.Nat.{ℕ}
+use Rattle.frames.specs.Walk.{Starts, Walks, WentOn}
 use Rattle.framing.proofs.PutFrames.{PutTo}
 use Rattle.framing.proofs.written.write_frames.Given as goal
 
-abbrev pub invariant-loop-t : goal.invariant-loop-t
-invariant-loop-t l =
-    (length l.bytes ≡ length l.initial.bytes)
-    × (length l.publishing ≡ length l.initial.publishing)
-    × (length l.reading ≡ length l.initial.reading)
-    × ((table : Table) (core : ℕ) → RightRound table l.round → (l.writer ≡ table.writer) × (l.readers ≡ table.readers)
-    → GoesOver table l.periods l.written l.read → Ready table core 0 l.initial.publishing l.initial.reading
-    → Ready table core l.t l.publishing l.reading × PutTo table core l.initial.bytes l.initial.ink l.t l.bytes l.ink)
-
-abbrev pub decreases-loop-t : goal.decreases-loop-t
-decreases-loop-t l =
-    l.round - l.t
+abbrev pub invariant-loop-start : goal.invariant-loop-start
+invariant-loop-start l =
+    let first = l.initial.start-iterator in
+    let walk = l.start-iterator in
+    (goal.iterator-loop-start).can_next walk
+    × (goal.iterator-loop-start).is_finite walk
+    × WentOn first walk
+    × ((core : ℕ) → Starts core first
+    → Walks core walk × PutTo first.table.now core l.initial.bytes l.initial.ink walk.t l.bytes l.ink)

@@ -1,35 +1,40 @@
--- `gathering::storing::store_pairs` meets its contract. The loop's invariant: the counters of the readers met are stored,
--- and the next one is reached. Assumes nothing.
-use mathlib.Core.Path.{refl}
-use native.Mathlib.Omega.{arith}
-use Rattle.readers.proofs.Walk.{next_nearer}
-use Rattle.gathering.proofs.Passed.{passed_none, passed_more, passed_all}
+-- `gathering::storing::store_pairs` meets its contract. Assumes nothing.
+use Rattle.std.proofs.Common.{◌≡◌, ◌∙◌, ap, length, arith, length-append}
+use Rattle.lists.specs.Lists.{each_of}
+use Rattle.masks.proofs.Rising.{each_more}
+use Rattle.readers.specs.NextReader.{readers_in}
+use Rattle.gathering.specs.Pairs.{pairs_with}
+use Rattle.gathering.proofs.InArray.{adds_none, adds_then}
+use Rattle.gathering.proofs.MetTasks.{all_tasks, few_met, few_tasks}
 use Rattle.gathering.proofs.storing.store_pairs.Goals as goal
+use Rattle.gathering.proofs.storing.store_pairs.Goals.{After-into_iter-r-iterator}
+
+-- the loop goes over the readers of the mask
+whole : (c : After-into_iter-r-iterator) → c.into_iter-r-iterator.result ≡ readers_in c.args.mask
+whole c = c.into_iter-r-iterator.ensures.into_iter_gives ∙ c.readers-r-items.ensures
 
 pub loop-r-init : goal.loop-r-init
-loop-r-init c = (refl, omega arith, passed_none _ _ _ _ _ _ _ _ c.next_reader-r.ensures)
+unfolding each_of
+loop-r-init c = record { few = omega arith; adds = adds_none _ _ _ }
 
-pub loop-r-smaller : goal.loop-r-smaller
-loop-r-smaller c = next_nearer _ c.loop-r-test.true c.next_reader-r-in-loop-r.ensures
+pub store_pair-more-requires-clause-room : goal.store_pair-more-requires-clause-room
+store_pair-more-requires-clause-room c =
+    let met = few_met _ _ _ _ (whole (goal.at.store_pair-more-requires-clause-room c).After-into_iter-r-iterator)
+    c.loop-r.yielded_by c.in-Some.ensures.steps in
+    omega (arith, c.requires.room, c.loop-r.invariant.few, met)
 
 pub loop-r-preserved : goal.loop-r-preserved
 loop-r-preserved c =
-    let turn = c.loop-r in
-    let stored-one = c.store_pair-more.ensures in (
-      omega arith,
-      omega (arith, turn.invariant.1, stored-one.few, next_nearer _ c.loop-r-test.true c.next_reader-r-in-loop-r.ensures),
-      passed_more _ _ _ _ _ _ _ _ turn.invariant.2 (omega arith) stored-one.adds c.next_reader-r-in-loop-r.ensures,
-    )
+    record {
+      few = rw length-append (omega (arith, c.loop-r.invariant.few, c.store_pair-more.ensures.few));
+      adds = rw each_more (adds_then _ c.loop-r.invariant.adds c.store_pair-more.ensures.adds);
+    }
 
 pub returns : goal.returns
+unfolding pairs_with
 returns c =
-    let (long, room, passed) = c.loop-r.invariant in
-    record { adds = passed_all _ _ _ _ _ _ _ _ passed (omega arith); few = omega (arith, room, passed.within) }
-
-pub store_pair-more-requires : goal.store_pair-more-requires
-store_pair-more-requires c =
-    (c.requires.0, omega arith, omega (arith, c.requires.1, c.loop-r.invariant.1))
-
-pub shape_of-counters : goal.shape_of-counters
-shape_of-counters c =
-    c.loop-r.invariant.0
+    let all = all_tasks _ _ _ (whole (goal.at.returns c).After-into_iter-r-iterator) c.loop-r.yielded_by c.in-None.ensures.steps in
+    record {
+      adds = rw (← all) c.loop-r.invariant.adds;
+      few = omega (arith, c.loop-r.invariant.few, ap length all, few_tasks c.args.mask);
+    }

@@ -1,70 +1,78 @@
 -- `image_parts::labels::read_label`: the writer and then the readers are taken, or a refusal is handed on.
 -- Assumes nothing.
 use Prim.Native.Nat.{ℕ, ◌+◌}
-use mathlib.Core.Path.{◌≡◌, sym, ◌∙◌}
-use mathlib.Core.List.{List}
+use mathlib.Core.Path.{◌≡◌, refl, sym, ap, ◌∙◌}
 use native.Mathlib.Omega.{arith}
 use borrow.Author.Tests.{ltb-true}
 use lib.Dec.{ltb}
-use Rattle.outcomes.specs.Outcome.{gives}
-use Rattle.taking.specs.Reading.{field}
-use Rattle.fields.specs.GotField.{got, in_range, GotField}
-use Rattle.fields.specs.declared.Got.{Got}
-use Rattle.table.specs.Image.{label_fields}
-use Rattle.table.specs.declared.Answer.TheVariants.{Accepted}
+use Rattle.std.proofs.Common.{rules, true, Err}
+use Rattle.bits.specs.Found.{found_at}
+use Rattle.outcomes.specs.Outcome.{Outcome, asked_of}
+use Rattle.taking.specs.Reading.{Taken, field}
+use Rattle.table.specs.Image.{Label, label_bits, label_fields}
 use Rattle.taking.proofs.FieldLaws.{field_ends, field_right, field_wrong}
 use Rattle.taking.proofs.Checks.{field_checks}
-use Rattle.fields.proofs.Steps.{taken, not_taken, still_refused, by_test, range_is_below}
+use Rattle.fields.specs.TakenTo.{taken_as}
+use Rattle.fields.proofs.Steps.{step_on, step_off, range_is_below, by_test}
+use Rattle.image_parts.specs.Parts.{label_of}
 use Rattle.image_parts.proofs.labels.read_label.Goals as goal
+use Rattle.image_parts.proofs.labels.read_label.Goals.{In_ok-writer, In_ok-readers}
 
-module _ (tasks : ℕ) (image : List ℕ) (at : ℕ) (writer : Got)
-    (read : GotField (field 5 6 (in_range 0 tasks) image at) (at + 5) writer) where
-  -- what was said of the writer
-  writer_said : got writer (at + 5) ≡ field 5 6 (λ v. ltb v tasks) image at
-  writer_said = by_test _ _ _ _ (range_is_below _) read.said
+-- the writer is taken, whatever follows it
+writer_on : (c : In_ok-writer) (rest : Taken ℕ → Outcome (Taken Label))
+    → asked_of (field 5 6 (λ writer. ltb writer c.args.tasks) c.args.reader.now.image.now c.args.reader.now.at) rest
+    ≡ rest (record { value = c.in_ok-writer.writer; next = c.args.reader.now.at + 5 })
+writer_on c rest = step_on 5 6 (range_is_below _) refl refl rest c.in_ok-writer.ensures.taken
 
-  -- a writer that was taken
-  writer_taken : writer.answer ≡ Accepted
-      → field 5 6 (λ v. ltb v tasks) image at ≡ gives (record { value = writer.value; next = at + 5 })
-  writer_taken told = taken _ told writer_said
+writer_is_task : (c : In_ok-writer) → ltb c.in_ok-writer.writer c.args.tasks ≡ true
+writer_is_task c = field_checks 5 6 _ _ _ _ (sym (by_test 5 6 _ _ (range_is_below _) c.in_ok-writer.ensures.taken))
 
-pub returns-in_default : goal.returns-in_default
+readers_stand : (c : In_ok-writer) → c.ranged.new.reader.at ≡ c.args.reader.now.at + 5
+readers_stand c = omega (arith, c.in_ok-writer.ensures.on, c.requires.0)
+
+module _ (c : In_ok-writer) where
+  -- what is found where the readers start
+  readers_found : {outcome : Outcome ℕ}
+      → outcome ≡ found_at c.ranged.new.reader.image.now c.ranged.new.reader.at 32
+      → found_at c.args.reader.now.image.now (c.args.reader.now.at + 5) 32 ≡ outcome
+  readers_found said =
+      rw (← readers_stand c, ← ap (λ image. image.now) c.in_ok-writer.ensures.image) (sym said)
+
+pub returns-in_err-writer-clause-taken : goal.returns-in_err-writer-clause-taken
 unfolding label_fields
-returns-in_default c =
-    let told = c.in_default.is in
-    still_refused _ _ told ∙ sym (rw (not_taken _ _ told (writer_said _ _ _ _ c.ranged-writer.ensures)))
-
-pub returns-in_default-found : goal.returns-in_default-found
-unfolding label_fields
-returns-in_default-found c =
-    rw (
-      writer_taken _ _ _ _ c.ranged-writer.ensures c.in-Accepted.is,
-      ← field_ends 32 7 _ _ _ _ c.next_field-found.ensures c.in_default-found.is,
-    )
+returns-in_err-writer-clause-taken c =
+    let handed : c.from_residual.result ≡ Err c.in_err-writer.field-0.0 = search rules in
+    ap (taken_as label_of (c.args.reader.now.at + label_bits)) handed
+    ∙ sym (step_off 5 6 (range_is_below _) refl refl _ c.in_err-writer.ensures.taken)
 
 pub right_readers-requires : goal.right_readers-requires
-right_readers-requires c = (
-  omega arith,
-  ltb-true _ _ (field_checks 5 6 _ _ _ _ (writer_taken _ _ _ _ c.ranged-writer.ensures c.in-Accepted.is)),
-)
+right_readers-requires c = (omega arith, ltb-true _ _ (writer_is_task (goal.at.right_readers-requires c).In_ok-writer))
 
-pub returns-then-right_readers : goal.returns-then-right_readers
+pub returns-in_err-readers-clause-taken : goal.returns-in_err-readers-clause-taken
 unfolding label_fields
-returns-then-right_readers c =
-    let at = c.args.at in
-    let next : at + 37 ≡ at + 5 + 32 = omega arith in
-    rw (
-      next,
-      writer_taken _ _ _ _ c.ranged-writer.ensures c.in-Accepted.is,
-      ← field_right 32 7 _ _ _ _ c.next_field-found.ensures _ c.in-Value.is
-          (sym c.right_readers.ensures ∙ c.if-right_readers.true),
-    )
+returns-in_err-readers-clause-taken c =
+    let handed : c.from_residual-in_err-readers.result ≡ Err c.in_err-readers.field-0.0 = search rules in
+    let writer = (goal.at.returns-in_err-readers-clause-taken c).In_ok-writer in
+    ap (taken_as label_of (c.args.reader.now.at + label_bits)) handed
+    ∙ sym (writer_on writer _ ∙ rw (← field_ends 32 7 _ _ _ (readers_found writer c.in_err-readers.ensures.found)))
 
-pub returns-else-right_readers : goal.returns-else-right_readers
+pub returns-then-right_readers-clause-taken : goal.returns-then-right_readers-clause-taken
 unfolding label_fields
-returns-else-right_readers c =
-    rw (
-      writer_taken _ _ _ _ c.ranged-writer.ensures c.in-Accepted.is,
-      ← field_wrong 32 7 _ _ _ _ c.next_field-found.ensures _ c.in-Value.is
-          (sym c.right_readers.ensures ∙ c.if-right_readers.false),
-    )
+returns-then-right_readers-clause-taken c =
+    let writer = (goal.at.returns-then-right_readers-clause-taken c).In_ok-writer in
+    let next : c.args.reader.now.at + label_bits ≡ c.args.reader.now.at + 5 + 32 = omega arith in
+    rw next
+    (sym
+    (writer_on writer _
+    ∙ rw (← field_right 32 7 _ _ _ _ (readers_found writer c.in_ok-readers.ensures.found)
+    (sym c.right_readers.ensures ∙ c.if-right_readers.true))))
+
+pub returns-else-right_readers-clause-taken : goal.returns-else-right_readers-clause-taken
+unfolding label_fields
+returns-else-right_readers-clause-taken c =
+    let writer = (goal.at.returns-else-right_readers-clause-taken c).In_ok-writer in
+    rw (c.place-place.ensures, readers_stand writer)
+    (sym
+    (writer_on writer _
+    ∙ rw (← field_wrong 32 7 _ _ _ _ (readers_found writer c.in_ok-readers.ensures.found)
+    (sym c.right_readers.ensures ∙ c.if-right_readers.false))))

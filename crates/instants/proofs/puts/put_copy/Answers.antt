@@ -6,6 +6,7 @@ use Rattle.instants.proofs.puts.put_copy.Goals as goal
 
 pub returns : goal.returns
 returns c =
+    let (is, few) = c.from.ensures in
     puts_one _ _ _ _ 12 _ _
-    (λ held bits inked few. c.put.ensures held bits inked few (omega arith) (omega arith))
-    (one_field _ _ _ (omega arith) (omega arith))
+    (λ held bits inked counted. c.put.ensures held bits inked counted (omega arith) (omega arith))
+    (rw is (one_field _ _ _ (omega arith) (omega arith)))

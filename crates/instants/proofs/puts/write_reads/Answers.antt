@@ -1,37 +1,28 @@
--- `instants::puts::write_reads` meets its contract. The loop's invariant: the reads of the labels passed were put.
--- Assumes nothing.
-use mathlib.Core.Path.{refl}
-use native.Mathlib.Omega.{arith}
+-- `instants::puts::write_reads` meets its contract. The loop's invariant: the reads of the labels met were put. Assumes
+-- nothing.
+use mathlib.Core.Path.{refl, ◌∙◌}
+use Rattle.lists.specs.Lists.{each_of}
+use Rattle.masks.proofs.OfLabels.{labels_done}
 use Rattle.instants.specs.Due.{writer_due, reads_in}
-use Rattle.instants.proofs.LabelsPut.{put_nothing, put_label, put_all}
-use Rattle.instants.proofs.Putting.{no_copy, copies_then}
+use Rattle.instants.proofs.OfLabel.{reads_of}
+use Rattle.instants.proofs.Putting.{no_copy, one_more_put}
 use Rattle.instants.proofs.puts.write_reads.Goals as goal
 
-pub loop-rest-init : goal.loop-rest-init
-loop-rest-init c = (refl, c.ranges.read.fits, put_nothing _ _ (no_copy _ _ refl))
+pub loop-label-init : goal.loop-label-init
+unfolding each_of
+loop-label-init c = no_copy _ _ refl
 
-pub loop-rest-preserved : goal.loop-rest-preserved
+pub loop-label-preserved : goal.loop-label-preserved
 unfolding writer_due
-loop-rest-preserved c =
-    let turn = c.loop-rest in (
-      omega arith,
-      omega (arith, c.without-rest.ensures.1, turn.invariant.1),
-      put_label _ (omega arith) turn.invariant.1 turn.invariant.2 c.first_label-l.ensures.0
-          c.without-rest.ensures.0 (λ done before. copies_then done _ before c.reads_of-last.ensures),
-    )
+loop-label-preserved c =
+    let a = c.args in
+    one_more_put (reads_of a.table.now.writer a.table.now.readers a.serves.now) _ _ c.loop-label.invariant c.reads_of-last.ensures
 
 pub returns : goal.returns
 unfolding reads_in
-returns c = put_all _ (omega arith) c.loop-rest.invariant.2
-
-pub without-rest-requires : goal.without-rest-requires
-without-rest-requires c =
-    (omega arith, c.first_label-l.ensures.0)
-
-pub loop-rest-smaller : goal.loop-rest-smaller
-loop-rest-smaller c =
-    c.without-rest.ensures.1
-
-pub shape_of-bytes : goal.shape_of-bytes
-shape_of-bytes c =
-    c.loop-rest.invariant.0
+returns c =
+    let a = c.args in
+    let whole = c.into_iter-label-iterator.ensures.into_iter_gives ∙ c.labels-label-items.ensures in
+    rw (← labels_done (reads_of a.table.now.writer a.table.now.readers a.serves.now) _ _ _ whole c.loop-label.yielded_by
+    c.in-None.ensures.steps)
+    c.loop-label.invariant

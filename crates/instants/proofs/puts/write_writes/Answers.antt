@@ -1,38 +1,25 @@
--- `instants::puts::write_writes` meets its contract. The loop's invariant: the writes of the labels passed were put.
--- Assumes nothing.
-use mathlib.Core.Path.{refl}
-use native.Mathlib.Omega.{arith}
+-- `instants::puts::write_writes` meets its contract. The loop's invariant: the writes of the labels met were put. Assumes
+-- nothing.
+use mathlib.Core.Path.{refl, ◌∙◌}
+use Rattle.lists.specs.Lists.{each_of}
+use Rattle.masks.proofs.OfLabels.{labels_done}
 use Rattle.instants.specs.Due.{writer_due, writes_in}
-use Rattle.instants.proofs.LabelsPut.{put_nothing, put_label, put_all}
-use Rattle.instants.proofs.Putting.{no_copy, one_write, copies_then}
+use Rattle.instants.proofs.OfLabel.{write_of}
+use Rattle.instants.proofs.Putting.{no_copy, one_write, one_more_put}
 use Rattle.instants.proofs.puts.write_writes.Goals as goal
 
-pub loop-rest-init : goal.loop-rest-init
-loop-rest-init c = (refl, c.ranges.written.fits, put_nothing _ _ (no_copy _ _ refl))
+pub loop-l-init : goal.loop-l-init
+unfolding each_of
+loop-l-init c = no_copy _ _ refl
 
-pub loop-rest-preserved : goal.loop-rest-preserved
+pub loop-l-preserved : goal.loop-l-preserved
 unfolding writer_due
-loop-rest-preserved c =
-    let label = c.first_label-l.ensures in
-    let turn = c.loop-rest in (
-      omega arith,
-      omega (arith, c.without-rest.ensures.1, turn.invariant.1),
-      put_label _ (omega arith) turn.invariant.1 turn.invariant.2 label.0 c.without-rest.ensures.0
-          (λ done before. copies_then done _ before (one_write _ _ refl c.put_copy-last.ensures)),
-    )
+loop-l-preserved c =
+    one_more_put (write_of c.args.table.now.writer) _ _ c.loop-l.invariant (one_write _ _ refl c.put_copy-last.ensures)
 
 pub returns : goal.returns
 unfolding writes_in
-returns c = put_all _ (omega arith) c.loop-rest.invariant.2
-
-pub without-rest-requires : goal.without-rest-requires
-without-rest-requires c =
-    (omega arith, c.first_label-l.ensures.0)
-
-pub loop-rest-smaller : goal.loop-rest-smaller
-loop-rest-smaller c =
-    c.without-rest.ensures.1
-
-pub shape_of-bytes : goal.shape_of-bytes
-shape_of-bytes c =
-    c.loop-rest.invariant.0
+returns c =
+    let whole = c.into_iter-l-iterator.ensures.into_iter_gives ∙ c.labels-l-items.ensures in
+    rw (← labels_done (write_of c.args.table.now.writer) _ _ _ whole c.loop-l.yielded_by c.in-None.ensures.steps)
+    c.loop-l.invariant

@@ -1,24 +1,9 @@
--- `instants::puts::write_writes` meets its contract. The loop's invariant: the writes of the labels passed were put.
--- Assumes nothing.
-use Prim.Native.Nat.{ℕ, ◌^◌, ◌<◌}
-use mathlib.Core.Path.{◌≡◌}
-use mathlib.Core.List.{List, [], ◌∷◌}
-use lib.ListN.{length}
-use Rattle.copies.specs.Copies.{Copy, write}
-use Rattle.instants.specs.Due.{writer_due}
+-- `instants::puts::write_writes` meets its contract. The loop's invariant: the writes of the labels met were put. Assumes
+-- nothing.
+use Rattle.lists.specs.Lists.{each_of}
 use Rattle.instants.specs.Puts.{PutsCopies}
-use Rattle.instants.proofs.LabelsPut.{PutBefore}
+use Rattle.instants.proofs.OfLabel.{write_of}
 use Rattle.instants.proofs.puts.write_writes.Given as goal
 
--- the write of one label
-abbrev pub one : List ℕ → ℕ → List Copy
-one writer l = write l (writer_due writer l) ∷ []
-
-abbrev pub invariant-loop-rest : goal.invariant-loop-rest
-invariant-loop-rest l =
-    (length l.bytes ≡ length l.initial.bytes)
-    × (l.rest < 2 ^ 64)
-    × PutBefore (one l.writer) (PutsCopies l.initial.bytes l.bytes l.initial.last l.last) l.written l.rest
-
-abbrev pub decreases-loop-rest : goal.decreases-loop-rest
-decreases-loop-rest l = l.rest
+abbrev pub invariant-loop-l : goal.invariant-loop-l
+invariant-loop-l l = PutsCopies l.initial.bytes l.bytes l.initial.last l.last (each_of l.yielded (write_of l.table.writer))

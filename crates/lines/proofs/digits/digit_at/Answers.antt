@@ -1,12 +1,14 @@
 -- `lines::digits::digit_at` meets its contract. Assumes nothing.
-use mathlib.Core.Path.{sym}
+use Rattle.std.proofs.Common.{arith}
+use Rattle.std.proofs.lemmas.Grind.{common_steps}
+use Rattle.std.proofs.lemmas.Option.{gets}
 use Rattle.lines.specs.Digits.{digit_at}
-use Rattle.lines.proofs.Inside.{digit_past}
 use Rattle.lines.proofs.digits.digit_at.Goals as goal
 
-pub returns-then-at-text : goal.returns-then-at-text
+pub returns-in_err-get : goal.returns-in_err-get
 unfolding digit_at
-returns-then-at-text c = c.digit.ensures
+returns-in_err-get c = grind (arith, common_steps, gets, c.in_err-get.ensures.lookup)
 
 pub returns : goal.returns
-returns c = sym (digit_past _ _ c.if-at-text.false)
+unfolding digit_at
+returns c = grind (arith, common_steps, gets, c.in_ok-get.ensures.lookup)

@@ -7,6 +7,6 @@ pub returns-then-reader-writer : goal.returns-then-reader-writer
 unfolding publishing_from
 returns-then-reader-writer c = rw (le-leb _ _ c.if-reader-writer.true)
 
-pub returns : goal.returns
+pub returns-else-reader-writer : goal.returns-else-reader-writer
 unfolding publishing_from
-returns c = rw (lt-leb _ _ c.if-reader-writer.false, c.last_to.ensures, c.first_from.ensures.0)
+returns-else-reader-writer c = rw (lt-leb _ _ c.if-reader-writer.false, c.last_to.ensures.is, c.first_from.ensures.is)

@@ -7,12 +7,12 @@ pub returns-then-writer-reader : goal.returns-then-writer-reader
 unfolding reading_from
 returns-then-writer-reader c = rw (le-leb _ _ c.if-writer-reader.true)
 
-pub returns : goal.returns
+pub returns-else-writer-reader : goal.returns-else-writer-reader
 unfolding reading_from
-returns c =
+returns-else-writer-reader c =
     rw (
       lt-leb _ _ c.if-writer-reader.false,
-      c.first_from-2.ensures.0,
-      c.first_from.ensures.0,
+      c.first_from-else-writer-reader.ensures.is,
+      c.first_from.ensures.is,
       c.after_previous.ensures,
     )

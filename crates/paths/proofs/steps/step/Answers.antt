@@ -1,134 +1,89 @@
 -- `paths::steps::step` meets its contract: one after the other the four are taken. Assumes nothing.
-use Prim.Native.Nat.{ℕ, ◌<◌}
-use mathlib.Core.Path.{refl}
+use Prim.Native.Nat.{◌+◌, ◌*◌, ◌≤◌}
+use mathlib.Core.Path.{◌≡◌, sym, ap, subst, ◌∙◌}
 use native.Mathlib.Omega.{arith}
-use Rattle.following.specs.declared.four.Four.{Four}
-use Rattle.paths.specs.Walks.{Taking, Taken}
-use Rattle.path_sums.specs.declared.Walk.{Walk}
-use Rattle.paths.proofs.FourInstants.{next_four, near_four, published_four, four_pass_on}
-use Rattle.paths.proofs.Takes.{next_taking}
+use lib.ListN.{length, get_or}
+use Rattle.std.specs.List.{All}
+use Rattle.std.proofs.lemmas.List.{get_or-map}
+use Rattle.quotients.specs.Paces.{periods_of}
+use Rattle.following.specs.Following.{last_start, end_from, PublishedAt, PassesOn}
+use Rattle.following.proofs.Paces.{period_at}
+use Rattle.paths.specs.Walks.{Taking}
+use Rattle.paths.proofs.FourInstants.{four_after, instant_of, near_four, published_four, four_pass_on}
+use Rattle.paths.proofs.Reached.{reached_none, reached_next, taking_next}
 use Rattle.paths.proofs.steps.step.Goals as goal
-use Rattle.paths.proofs.steps.step.Goals.{Start, After-end_from-ends}
+use Rattle.paths.proofs.steps.step.Goals.{Start, In-loop-i}
 
--- the task's number
-few : (c : Start) → c.args.at < 8
-few c = omega (arith, c.requires.0.inside, c.requires.0.right.right.few)
+-- the last of the four instants is no late one
+near : (c : Start) → c.args.walk.instant + 4 * get_or (periods_of c.args.paces.now) c.args.at 0 ≤ 32000000
+near c = omega (arith, near_four (periods_of c.args.paces.now) c.requires)
+
+pub overflow_add-a : goal.overflow_add-a
+overflow_add-a c =
+    omega (arith, near (goal.at.overflow_add-a c).Start, period_at c.args.paces.now c.args.at c.index-paces-at.result c.requires.inside)
+
+pub overflow_add-b : goal.overflow_add-b
+overflow_add-b c =
+    omega (arith, near (goal.at.overflow_add-b c).Start, period_at c.args.paces.now c.args.at c.index-paces-at.result c.requires.inside)
+
+pub overflow_add-c : goal.overflow_add-c
+overflow_add-c c =
+    omega (arith, near (goal.at.overflow_add-c c).Start, period_at c.args.paces.now c.args.at c.index-paces-at.result c.requires.inside)
+
+pub overflow_add-d : goal.overflow_add-d
+overflow_add-d c =
+    omega (arith, near (goal.at.overflow_add-d c).Start, period_at c.args.paces.now c.args.at c.index-paces-at.result c.requires.inside)
 
 pub last_start-starts-requires : goal.last_start-starts-requires
 last_start-starts-requires c =
-    let start = c in (
-      λ i below. start.requires.1 i (omega (arith, start.requires.0.inside)),
-      published_four start.args.periods.now start.requires.0,
-    )
-
--- where the starts and the ends have been found: what stands at the four instants is taken one after the other
-module _ (c : After-end_from-ends) where
-  abbrev instants : Four
-  instants = next_four c.args.periods.now c.requires.0
-
-  abbrev Takes : Walk → (instant first end : ℕ) → Type 0
-  Takes walk instant first end = Taking c.args.periods.now c.args.count c.args.at c.args.round walk instant first end
-
-  abbrev Took : Walk → ℕ → Walk → Type 0
-  Took walk instant r = Taken c.args.periods.now c.args.count c.args.at c.args.round walk instant r
-
-  -- what `take` promises of its result
-  abbrev Promised : Walk → (instant first end : ℕ) → Walk → Type 0
-  Promised walk instant first end r =
-      (at : ℕ) → Taking c.args.periods.now c.args.count at c.args.round walk instant first end
-      → Taken c.args.periods.now c.args.count at c.args.round walk instant r
-
-  takes_a : Takes c.args.walk instants.a c.last_start-starts.result.a c.end_from-ends.result.a
-  takes_a = record {
-    right = c.requires.0.right;
-    inside = c.requires.0.inside;
-    walks = c.requires.0.walks;
-    next = λ within. refl;
-    last = c.last_start-starts.ensures.a;
-    ends = c.end_from-ends.ensures.a;
-  }
-
-  module _ (first : Walk)
-      (a : Promised c.args.walk instants.a c.last_start-starts.result.a c.end_from-ends.result.a first)
-    where
-      took_a : Took c.args.walk instants.a first
-      took_a = a _ takes_a
-
-      takes_b : Takes first instants.b c.last_start-starts.result.b c.end_from-ends.result.b
-      takes_b =
-          next_taking _ c.requires.0.right c.requires.0.inside took_a c.last_start-starts.ensures.b
-          c.end_from-ends.ensures.b
-
-      module _ (second : Walk)
-          (b : Promised first instants.b c.last_start-starts.result.b c.end_from-ends.result.b second)
-        where
-          took_b : Took first instants.b second
-          took_b = b _ takes_b
-
-          takes_c : Takes second instants.c c.last_start-starts.result.c c.end_from-ends.result.c
-          takes_c =
-              next_taking _ c.requires.0.right c.requires.0.inside took_b c.last_start-starts.ensures.c
-              c.end_from-ends.ensures.c
-
-          module _ (third : Walk)
-              (d : Promised second instants.c c.last_start-starts.result.c c.end_from-ends.result.c third)
-            where
-              took_c : Took second instants.c third
-              took_c = d _ takes_c
-
-              takes_d : Takes third instants.d c.last_start-starts.result.d c.end_from-ends.result.d
-              takes_d =
-                  next_taking _ c.requires.0.right c.requires.0.inside took_c c.last_start-starts.ensures.d
-                  c.end_from-ends.ensures.d
-
-pub overflow_add-a : goal.overflow_add-a
-overflow_add-a c = omega (arith, near_four _ c.requires.0)
-
-pub overflow_add-b : goal.overflow_add-b
-overflow_add-b c = omega (arith, near_four _ c.requires.0)
-
-pub overflow_add-c : goal.overflow_add-c
-overflow_add-c c = omega (arith, near_four _ c.requires.0)
-
-pub overflow_add-d : goal.overflow_add-d
-overflow_add-d c = omega (arith, near_four _ c.requires.0)
+    let periods = periods_of c.args.paces.now in
+    let at = c.args.at in
+    subst (λ T. All (λ x. PublishedAt periods at x × (x ≤ 32000000)) (four_after c.args.walk.instant T))
+    (period_at c.args.paces.now at c.index-paces-at.result c.requires.inside) (published_four periods c.requires)
 
 pub end_from-ends-requires : goal.end_from-ends-requires
-end_from-ends-requires c = (c.requires.1, four_pass_on _ c.requires.0)
+end_from-ends-requires c =
+    let periods = periods_of c.args.paces.now in
+    let at = c.args.at in
+    subst (λ T. All (λ x. PassesOn periods at (length c.args.paces.now) x) (four_after c.args.walk.instant T))
+    (period_at c.args.paces.now at c.index-paces-at.result c.requires.inside) (four_pass_on periods c.requires)
 
-pub take-first-requires : goal.take-first-requires
-take-first-requires c = (_, takes_a c)
+pub loop-i-init : goal.loop-i-init
+loop-i-init c = reached_none (periods_of c.args.paces.now) c.requires
 
-pub take-second-requires : goal.take-second-requires
-take-second-requires c =
-    (_, takes_b (goal.at.take-second-requires c).After-end_from-ends _ c.take-first.ensures)
+-- the instant that is taken next
+next : (c : In-loop-i)
+    → let periods = periods_of c.args.paces.now in
+    get_or (four_after c.args.walk.instant (get_or c.args.paces.now c.args.at c.index-paces-at.result).period) c.loop-i.i 0
+    ≡ c.args.walk.instant + (c.loop-i.i + 1) * get_or periods c.args.at 0
+next c =
+    let own = period_at c.args.paces.now c.args.at c.index-paces-at.result c.requires.inside in
+    instant_of c.args.walk.instant _ c.loop-i.i c.loop-i-test.true
+    ∙ ap (λ T. c.args.walk.instant + (c.loop-i.i + 1) * T) (sym own)
 
-pub take-third-requires : goal.take-third-requires
-take-third-requires c = (
-  _,
-  takes_c (goal.at.take-third-requires c).After-end_from-ends _ c.take-first.ensures _ c.take-second.ensures,
-)
+-- of the last starts and of the ends it is the one of that instant
+taking : (c : In-loop-i)
+    → let periods = periods_of c.args.paces.now in
+    let instants = four_after c.args.walk.instant (get_or c.args.paces.now c.args.at c.index-paces-at.result).period in
+    Taking periods (length c.args.paces.now) c.args.at c.args.round c.loop-i.reached (get_or instants c.loop-i.i 0)
+    (get_or c.last_start-starts.result c.loop-i.i 0) (get_or c.end_from-ends.result c.loop-i.i 0)
+taking c =
+    let periods = periods_of c.args.paces.now in
+    let at = c.args.at in
+    let n = length c.args.paces.now in
+    let i = c.loop-i.i in
+    let instants = four_after c.args.walk.instant (get_or c.args.paces.now at c.index-paces-at.result).period in
+    taking_next periods c.requires c.loop-i.invariant (next c)
+    (ap (λ l. get_or l i 0) c.last_start-starts.ensures
+    ∙ get_or-map (λ x. last_start periods at x) instants i 0 0 c.loop-i-test.true)
+    (ap (λ l. get_or l i 0) c.end_from-ends.ensures
+    ∙ get_or-map (λ x. end_from periods at n x) instants i 0 0 c.loop-i-test.true)
 
-pub take-requires : goal.take-requires
-take-requires c = (
-  _,
-  takes_d (goal.at.take-requires c).After-end_from-ends _ c.take-first.ensures _ c.take-second.ensures
-      _ c.take-third.ensures,
-)
+pub take-reached-requires : goal.take-reached-requires
+take-reached-requires c = (_, taking (goal.at.take-reached-requires c).In-loop-i)
 
-pub returns : goal.returns
-returns c =
-    let found = (goal.at.returns c).After-end_from-ends in
-    let first = c.take-first.ensures in
-    let second = c.take-second.ensures in
-    let third = c.take-third.ensures in
-    let took-d = c.take.ensures _ (takes_d found _ first _ second _ third) in (
-      took-d.walks,
-      omega (
-        arith,
-        (took_a found _ first).later c.requires.0.within,
-        (took_b found _ first _ second).no_earlier,
-        (took_c found _ first _ second _ third).no_earlier,
-        took-d.no_earlier,
-      ),
-    )
+pub loop-i-preserved : goal.loop-i-preserved
+loop-i-preserved c =
+    let turn = (goal.at.loop-i-preserved c).In-loop-i in
+    reached_next (periods_of c.args.paces.now) c.requires c.loop-i.invariant (next turn)
+    (c.take-reached.ensures c.args.at (taking turn))

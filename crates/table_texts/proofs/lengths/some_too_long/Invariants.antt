@@ -1,6 +1,5 @@
 -- `table_texts::lengths::some_too_long` meets its contract. The loop's invariant: the listings of the cores passed are
 -- short enough. Assumes nothing.
-use Prim.Native.Nat.{◌-◌, ◌≤◌}
 use mathlib.Core.Bool.{false}
 use mathlib.Core.Path.{◌≡◌}
 use lib.Dec.{ltb}
@@ -12,8 +11,4 @@ use Rattle.table_texts.proofs.lengths.some_too_long.Given as goal
 
 abbrev pub invariant-loop-core : goal.invariant-loop-core
 invariant-loop-core l =
-    (l.core ≤ 8) × (l.core ≤ l.table.cores) × (RightRound l.table l.round
-    → some_below l.core (λ core. ltb 65536 (length (listing_of l.table core))) ≡ false)
-
-abbrev pub decreases-loop-core : goal.decreases-loop-core
-decreases-loop-core l = 8 - l.core
+    RightRound l.table l.round → some_below l.core (λ core. ltb 65536 (length (listing_of l.table core))) ≡ false

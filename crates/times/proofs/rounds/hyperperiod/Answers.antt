@@ -1,7 +1,6 @@
 -- `hyperperiod` meets its contract: the answer may be taken from the value that is held at 1,000,001. Assumes nothing.
 use mathlib.Core.Path.{◌≡◌, sym, ap, ◌∙◌}
 use native.Mathlib.Omega.{arith}
-use lib.ListN.{take}
 use Rattle.times.specs.Hyperperiod.{lcm_of}
 use Rattle.times.specs.Rounds.{within_limit}
 use Rattle.times.proofs.Limit.{round_held, round_within, round_above}
@@ -9,8 +8,7 @@ use Rattle.times.proofs.rounds.hyperperiod.Goals as goal
 use Rattle.times.proofs.rounds.hyperperiod.Goals.{After-round_up_to_limit-running}
 
 limit_of_running : (c : After-round_up_to_limit-running)
-    → let args = c.args in
-    within_limit c.round_up_to_limit-running.result ≡ within_limit (lcm_of (take args.tasks args.period))
+    → within_limit c.round_up_to_limit-running.result ≡ within_limit (lcm_of c.args.periods.now)
 limit_of_running c = ap within_limit c.round_up_to_limit-running.ensures ∙ round_held _
 
 pub returns-then-running-le1000000 : goal.returns-then-running-le1000000

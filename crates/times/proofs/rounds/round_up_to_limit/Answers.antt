@@ -1,37 +1,22 @@
--- `round_up_to_limit` meets its contract. The loop's invariant: the running value is the least common multiple of the
--- periods passed, held at 1,000,001 where it is larger. The measure is the number of periods left. Assumes nothing.
-use Prim.Native.Nat.{◌<◌, min}
-use mathlib.Core.Path.{◌≡◌, refl, ap, ◌∙◌}
-use native.Mathlib.Omega.{arith}
-use lib.ListN.{length, take}
+-- `round_up_to_limit` meets its contract. Assumes nothing.
+use mathlib.Core.Path.{refl, ap, ◌∙◌}
+use lib.Seq.{take_all}
 use Rattle.times.specs.Hyperperiod.{lcm_of, lcm_from}
-use Rattle.times.proofs.Limit.{held, held_more, take_at_most}
+use Rattle.times.proofs.Limit.{held, held_more}
 use Rattle.times.proofs.rounds.round_up_to_limit.Goals as goal
 
-pub loop-i-init : goal.loop-i-init
+pub loop-period-init : goal.loop-period-init
 unfolding lcm_of lcm_from
-loop-i-init c = (omega arith, refl)
+loop-period-init c = refl
 
-pub loop-i-preserved : goal.loop-i-preserved
-loop-i-preserved c =
-    let turn = c in
-    let passed = turn.loop-i in
-    let start = turn in
-    let enough : passed.i < length start.args.periods.now =
-    omega (arith, turn.loop-i-test.true, start.held-counted.ensures, start.requires) in (
-      omega (arith, turn.loop-i-test.true),
-      c.lcm_up_to_limit-running.ensures ∙ held_more start.args.periods.now passed.i passed.running enough
-          passed.invariant.1,
-    )
+pub loop-period-preserved : goal.loop-period-preserved
+loop-period-preserved c =
+    c.lcm_up_to_limit-running.ensures
+    ∙ held_more c.args.periods.now c.loop-period.period-index c.loop-period.running c.loop-period-test.true
+    c.loop-period.invariant
 
--- after the loop all that are counted are passed
+-- after the loop all are passed
 pub returns : goal.returns
 returns c =
-    let loop = c.loop-i in
-    let start = c in
-    let args = start.args in
-    let all : loop.i ≡ min args.count (length args.periods.now) =
-    omega (arith, c.loop-i-test.false, loop.invariant.0, start.held-counted.ensures, start.requires) in
-    loop.invariant.1
-    ∙ ap (λ k. held (lcm_of (take k args.periods.now))) all
-    ∙ ap (λ l. held (lcm_of l)) (take_at_most args.count args.periods.now)
+    c.loop-period.invariant
+    ∙ ap (λ l. held (lcm_of l)) (take_all c.loop-period.period-index c.args.periods.now c.loop-period-test.false)

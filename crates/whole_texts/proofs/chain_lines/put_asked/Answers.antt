@@ -4,10 +4,10 @@ use Rattle.whole_texts.proofs.chain_lines.put_asked.Goals as goal
 
 pub returns-in_default : goal.returns-in_default
 returns-in_default c whole accepted known =
-    let asked = c.ages-answer in
-    absurd (never_refused _ whole accepted _ known asked.result asked.ensures c.in_default.is)
+    let said = rw c.from.ensures at c.ages.ensures in
+    absurd (never_refused _ whole accepted _ known _ said c.in_default.is)
 
 pub returns : goal.returns
 returns c whole accepted known =
-    let asked = c.ages-answer in
-    rw (← ages_told _ whole accepted _ known asked.result asked.ensures c.in-Ages.is) c.put_chain.ensures
+    let said = rw c.from.ensures at c.ages.ensures in
+    rw (← ages_told _ whole accepted _ known _ said c.in-Ok.is) c.put_chain.ensures

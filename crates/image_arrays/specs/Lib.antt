@@ -1,2 +1,0 @@
--- Definitions of this crate.
-pub mod ArraysShown
