@@ -17,8 +17,9 @@ pub(crate) fn read_labels(reader: &mut FieldReader<'_>, table: &mut Table) -> Re
     ensures image { reader.new.image ≡ reader.old.image }
 {
     // A count is a `usize`, as lengths are: the cast is proved to lose nothing, where `try_from` would be one more way to fail.
+    let tasks = table.tasks as u32; // once: in the loop it would be looked up anew, since the table is written
     for l in 0..table.labels {
-        let label = read_label(reader, table.tasks as u32)?;
+        let label = read_label(reader, tasks)?;
         table.writer[l] = label.writer;
         table.readers[l] = label.readers;
     }

@@ -11,11 +11,8 @@ mod tasks;
 use image_parts::heads::read_head;
 use labels::read_labels;
 use reader::FieldReader;
-use table::{Refused, Table};
+use table::{HEAD_BITS, Refused, Table};
 use tasks::read_tasks;
-
-// How many bits the head takes: it is read by itself, and the reader goes on after it.
-const HEAD_BITS: usize = 4 + 4 + 6 + 7 + 5;
 
 // Head, tasks and labels: the table has the head's counts, the first entries of its arrays hold its tasks and labels, and
 // the entries after those keep their values. It gives the reader that stands after the labels.
@@ -30,6 +27,7 @@ pub fn read_body<'a>(image: &'a [u8], table: &mut Table) -> Result<FieldReader<'
     table.tasks = head.tasks;
     table.labels = head.labels;
     table.chains = head.chains;
+    // The head is read by itself, and the reader goes on after it.
     let mut reader = FieldReader::new(image, HEAD_BITS);
     read_tasks(&mut reader, table)?;
     read_labels(&mut reader, table)?;

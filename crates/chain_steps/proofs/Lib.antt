@@ -1,5 +1,5 @@
 -- Laws of this crate.
 mod ChainSteps
-mod LabelSearch
+pub mod LabelSearch
 mod Linking
 mod StepSearch

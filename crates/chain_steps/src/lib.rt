@@ -37,13 +37,14 @@ pub fn read_steps(
         if j == 0 {
             continue 'steps; // the first task ends no step
         }
-        // the labels that the earlier task writes, from the last back
+        // the labels that the earlier task writes, from the last back; the one before is looked up first, so that the compiled
+        // code does not wait for the test
         let mut label = links.latest[row[j - 1] as usize];
         while let Some(l) = label {
+            label = links.before[usize::from(l)];
             if marked(readers[usize::from(l)], u64::from(task)) {
                 continue 'steps;
             }
-            label = links.before[usize::from(l)];
         }
         return Err(Refused {
             refusal: Refusal::Chain,

@@ -8,7 +8,7 @@ ghost use Rattle.counted_listings.specs.Listed.{Fills};
 
 use counted_listings::listed_in;
 use gathering::joined_masks;
-use label_masks::label_masks;
+use label_masks::{LabelMasks, fill_masks};
 use table::Table;
 
 // The listing of a core of a right table: how many bytes it fills, or `None` where there is no room. A core with few counters
@@ -17,7 +17,8 @@ pub fn list_core(table: &Table, core: u32, round: u32, buffer: &mut [u8]) -> Opt
     requires { (core < table.now.cores) × RightRound table.now round }
     ensures { Fills table.now core buffer.old result buffer.new }
 {
-    let masks = label_masks(table);
+    let mut masks = LabelMasks::none();
+    fill_masks(table, &mut masks);
     let joined = joined_masks(table);
     match listed_in::<32>(table, core, round, &masks, &joined, buffer) {
         Some(listed) => listed,

@@ -4,7 +4,7 @@
 
 ghost use Rattle.std.specs.Prelude.{◌≡◌, ◌≤◌, ◌<◌, length, IfNone, IfSome};
 ghost use Rattle.frames.specs.Ready.{Ready};
-ghost use Rattle.counted_listings.specs.Listed.{Fills, ListsBy};
+ghost use Rattle.counted_listings.specs.Listed.{Fills, ListsBy, most_counters};
 
 use frames::counts::count_frames;
 use frames::gather_both;
@@ -14,7 +14,7 @@ use table::Table;
 
 // The listing, by the counters of the core at tick 0, where there is room for it: how many bytes it fills. The counters
 // are gathered again for the second round of the walk.
-fn listed(
+pub fn listed(
     table: &Table,
     core: u32,
     round: u32,
@@ -60,7 +60,9 @@ pub fn listed_in<const N: usize>(
     requires few_places { N ≤ 1024 }
     requires by { ListsBy table.now core round masks.now joined.now }
     ensures listed { IfSome result (λ listed. Fills table.now core buffer.old listed buffer.new) }
+    ensures few { IfSome result (λ listed. most_counters table.now core joined.now ≤ N) }
     ensures unlisted { IfNone result ((N < 1024) × (buffer.new ≡ buffer.old)) }
+    ensures many { IfNone result (N < most_counters table.now core joined.now) }
 {
     let mut publishing = [u32::MAX; N];
     let mut reading = [u32::MAX; N];

@@ -1,7 +1,7 @@
 -- The periods of a chain's tasks, taken one after the other; and what is shown of them. No contract cites this file.
 -- Assumes nothing.
 use Prim.Native.Nat.{ℕ, ◌+◌, ◌<◌, ◌≤◌}
-use mathlib.Core.Path.{◌≡◌, sym, ap, subst, ◌∙◌}
+use mathlib.Core.Path.{◌≡◌, refl, sym, ap, subst, ◌∙◌}
 use mathlib.Core.List.{List, [], map}
 use native.Mathlib.Numerals.{add-one}
 use native.Mathlib.Omega.{arith}
@@ -11,7 +11,7 @@ use lib.Seq.{length-take-le, take-suc, take_all}
 use Rattle.lists.specs.Lists.{over}
 use Rattle.lists.proofs.Over.{over_none, held_more}
 use Rattle.lists.proofs.Padded.{padded_at}
-use Rattle.std.specs.Prelude.{Result, Ok, Err}
+use Rattle.std.specs.Prelude.{Result, Ok, Err, IfOk, IfErr}
 use Rattle.outcomes.specs.Outcome.{gives}
 use Rattle.table.specs.Refusals.{said_of}
 use Rattle.table.specs.Table.{Rows, period_of, chain_of}
@@ -69,6 +69,21 @@ module _ (image : List ℕ) {table : Table} {rows : Rows} where
       answer = rw (← whole.said) (ap gives taken.count_is);
       periods = taken.periods ∙ sym (rw (whole_shown image whole));
     }
+
+  -- whatever the image was answered
+  pub right_if : (answer : Result ℕ Refused) → WholeRead image answer table rows → IfOk answer (λ round. RightRows table rows)
+  right_if (Ok round) whole = right_rows whole
+  right_if (Err refused) whole = tt
+
+  pub shown_by : {k : ℕ} {held left : List ℕ} (answer r : Result ℕ Refused) → WholeRead image answer table rows
+      → IfOk r (λ count. PeriodsTaken (record { table = table; rows = rows }) k count held left)
+      → ((refused : Refused) → answer ≡ Err refused → (r ≡ Err refused) × (left ≡ held))
+      → IfErr r (λ refused. answer ≡ Err refused) → PeriodsShown image k r held left
+  shown_by (Ok round) (Ok count) whole taken handed accepted = periods_shown whole taken
+  shown_by (Ok round) (Err refused) whole taken handed accepted = absurd (cc)
+  shown_by (Err refused) r whole taken handed accepted =
+      let (is, same) = handed refused refl in
+      rw same (none_shown refused whole is)
 
 -- the periods of the first tasks of a row, over what was held
 module _ (period row held : List ℕ) where

@@ -17,6 +17,6 @@ pub fn read_periods(image: &[u8], chain: u64, periods: &mut [u32; 32]) -> Result
 {
     let mut table = Table::empty();
     let mut rows = [[0; 8]; 16];
-    read_into(image, &mut table, &mut rows)?;
-    Ok(periods_of(&table, rows, chain, periods))
+    let answer = read_into(image, &mut table, &mut rows);
+    periods_of(answer, &table, rows, chain, periods)
 }

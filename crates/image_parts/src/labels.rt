@@ -1,7 +1,8 @@
 // "Each label: writer 5, readers 32" (document 01, Table image).
 ghost use Rattle.std.specs.Prelude.{◌≡◌, ◌+◌, ◌≤◌, ◌<◌, IfOk};
 ghost use Rattle.table.specs.Image.{label_bits, label_fields, right_readers};
-ghost use Rattle.fields.specs.TakenTo.{taken_as};
+ghost use Rattle.taking.specs.Reading.{field};
+ghost use Rattle.fields.specs.TakenTo.{taken_as, taken_to};
 ghost use Rattle.image_parts.specs.Parts.{label_of};
 
 use crate::Label;
@@ -23,6 +24,27 @@ fn right_readers(tasks: u32, writer: u32, readers: u32) -> bool
     own == 0
 }
 
+// The readers of a label of this writer, "read whole and then checked". A function of its own: where `read_label` checks
+// them, the compiled code puts each label together in memory and waits for it.
+fn read_readers(reader: &mut FieldReader<'_>, tasks: u32, writer: u32) -> Result<u32, Refused>
+    requires { (reader.old.at ≤ 65540) × (tasks ≤ 32) × (writer < tasks) }
+    ensures taken { taken_to (reader.old.at + 32) result
+        ≡ field 32 7 (right_readers tasks writer) reader.old.image.now reader.old.at }
+    ensures on { IfOk result (λ readers. reader.new.at ≡ reader.old.at + 32) }
+    ensures image { reader.new.image ≡ reader.old.image }
+{
+    let place = reader.place(); // where the readers start
+    let readers = whole(reader, 32)?;
+    if right_readers(tasks, writer, readers) {
+        Ok(readers)
+    } else {
+        Err(Refused {
+            refusal: Refusal::Reader,
+            place,
+        })
+    }
+}
+
 // One label: its writer and its readers.
 pub fn read_label(reader: &mut FieldReader<'_>, tasks: u32) -> Result<Label, Refused>
     requires { (reader.old.at ≤ 65535) × (tasks ≤ 32) }
@@ -32,14 +54,6 @@ pub fn read_label(reader: &mut FieldReader<'_>, tasks: u32) -> Result<Label, Ref
     ensures image { reader.new.image ≡ reader.old.image }
 {
     let writer = ranged(reader, 5, 0..tasks, Refusal::Writer)?;
-    let place = reader.place(); // where the readers start
-    let readers = whole(reader, 32)?;
-    if right_readers(tasks, writer, readers) {
-        Ok(Label { writer, readers })
-    } else {
-        Err(Refused {
-            refusal: Refusal::Reader,
-            place,
-        })
-    }
+    let readers = read_readers(reader, tasks, writer)?;
+    Ok(Label { writer, readers })
 }

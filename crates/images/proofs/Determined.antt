@@ -36,3 +36,9 @@ module _ (image : List ℕ) {table_a table_b : Table} {rows_a rows_b : Rows} whe
       refusal : {A B : Type 0} {n p m q : ℕ} → ◌≡◌ {A = Outcome A} (refuses n p) (refuses m q)
           → ◌≡◌ {A = Outcome B} (refuses n p) (refuses m q)
       refusal e = cc
+
+  pub table_determined : (s t : ℕ) → WholeRead image (Ok s) table_a rows_a → WholeRead image (Ok t) table_b rows_b
+      → (table_a ≡ table_b) × (rows_a ≡ rows_b)
+  table_determined s t of_a of_b =
+      let same = same_given (of_a.said ∙ sym of_b.said) in
+      (ap (λ whole. whole.table) same, ap (λ whole. whole.rows) same)

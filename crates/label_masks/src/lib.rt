@@ -15,39 +15,58 @@ pub struct LabelMasks {
     pub read: [u64; 32],
 }
 
+impl LabelMasks {
+    // Masks that hold nothing.
+    pub fn none() -> LabelMasks
+        ensures { result ≡ record { written = replicate 32 0; read = replicate 32 0 } }
+    {
+        LabelMasks {
+            written: [0; 32],
+            read: [0; 32],
+        }
+    }
+}
+
 // The masks of a table's labels.
 pub fn label_masks(table: &Table) -> LabelMasks
     ensures written { WrittenLabels table.now.labels table.now.writer result.written }
     ensures read { ReadLabels table.now.labels table.now.tasks table.now.readers result.read }
 {
-    LabelMasks {
-        written: written_labels(table),
-        read: read_labels(table),
-    }
+    let mut masks = LabelMasks::none();
+    fill_masks(table, &mut masks);
+    masks
 }
 
-// Of each task the labels that it writes.
-fn written_labels(table: &Table) -> [u64; 32]
-    ensures { WrittenLabels table.now.labels table.now.writer result }
+// The same where they are to be used, in masks that hold nothing at first: a small listing feels each copy.
+pub fn fill_masks(table: &Table, masks: &mut LabelMasks)
+    requires { (masks.old.written ≡ replicate 32 0) × (masks.old.read ≡ replicate 32 0) }
+    ensures written { WrittenLabels table.now.labels table.now.writer masks.new.written }
+    ensures read { ReadLabels table.now.labels table.now.tasks table.now.readers masks.new.read }
 {
-    let mut masks = [0; 32];
+    written_labels(table, &mut masks.written);
+    read_labels(table, &mut masks.read);
+}
+
+// Of each task the labels that it writes, in masks that hold nothing at first.
+fn written_labels(table: &Table, masks: &mut [u64; 32])
+    requires { masks.old ≡ replicate 32 0 }
+    ensures { WrittenLabels table.now.labels table.now.writer masks.new }
+{
     for l in 0..table.labels.min(64) {
         let w = table.writer[l] as usize % 32;
         masks[w] |= 9223372036854775808 >> l;
     }
-    masks
 }
 
-// Of each task the labels that it reads.
-fn read_labels(table: &Table) -> [u64; 32]
-    ensures { ReadLabels table.now.labels table.now.tasks table.now.readers result }
+// Of each task the labels that it reads, likewise.
+fn read_labels(table: &Table, masks: &mut [u64; 32])
+    requires { masks.old ≡ replicate 32 0 }
+    ensures { ReadLabels table.now.labels table.now.tasks table.now.readers masks.new }
 {
     let tasks = table.tasks.min(32);
-    let mut masks = [0; 32];
     for l in 0..table.labels.min(64) {
-        read_by(l, tasks, table.readers[l], &mut masks);
+        read_by(l, tasks, table.readers[l], masks);
     }
-    masks
 }
 
 // One label more in the masks of those of the first tasks that read it, from reader to reader.

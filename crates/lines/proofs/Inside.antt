@@ -12,7 +12,7 @@ use Rattle.lines.specs.Digits.{digit_at, decimal_at, space_at}
 
 module _ (text : List ℕ) (at : ℕ) where
   -- a digit
-  digit_past : length text ≤ at → is_some (digit_at text at) ≡ false
+  pub digit_past : length text ≤ at → is_some (digit_at text at) ≡ false
   unfolding digit_at
   digit_past past = rw (get_or-eq_default text 0 past)
 
@@ -31,7 +31,7 @@ module _ (text : List ℕ) (at : ℕ) where
       (λ past. absurd (false≢true (sym (decimal_past (omega arith)) ∙ here)))
 
   -- a space
-  space_past : length text ≤ at → space_at text at ≡ false
+  pub space_past : length text ≤ at → space_at text at ≡ false
   unfolding space_at
   space_past past = rw (get_or-eq_default text 0 past)
 

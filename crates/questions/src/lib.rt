@@ -11,9 +11,9 @@ mod cores;
 pub use aged_chains::Ages;
 use aged_chains::ages_of;
 use cores::core_listed;
+use image_arrays::read_arrays;
 use image_chains::read_periods;
 use images::read_table;
-use images::wholes::read_into;
 pub use pair_points::Points;
 use pair_points::points_of;
 use table::{Refused, Table};
@@ -39,8 +39,7 @@ pub fn listing(image: &[u8], core: u64, buffer: &mut [u8]) -> Result<usize, Refu
         ≡ lent_after (listing image.now core (length buffer.old)) buffer.old }
 {
     let mut table = Table::empty();
-    let mut rows = [[0; 8]; 16];
-    let answer = read_into(image, &mut table, &mut rows);
+    let answer = read_arrays(image, &mut table);
     let Ok(round) = answer else {
         return Err(answer.unwrap_err());
     };

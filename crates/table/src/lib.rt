@@ -51,6 +51,13 @@ pub struct Table {
     pub length: [u32; 16],
 }
 
+// How many bits the head, a task and a label take: head_bits, task_bits and label_bits of specs/Image.antt.
+pub const HEAD_BITS: usize = 26;
+
+pub const TASK_BITS: usize = 23;
+
+pub const LABEL_BITS: usize = 37;
+
 // The number of a refusal in document 01's table.
 impl From<Refusal> for u32 {
     ghost from_gives = { λ refusal number. number ≡ number_of refusal };

@@ -78,7 +78,7 @@ steps-preserved c =
       length-set _ _ _ ∙ long,
       next_few _ of_image at said _ _ long (omega arith),
       step_joined passed (omega arith) long (number_taken _ of_image at said) (omega arith) c.loop-label.invariant.1 _
-          c.in-Some.is (rw (← c.from-in-Some.ensures, ← c.from.ensures) (sym c.marked.ensures ∙ c.if-marked.true)),
+          c.in-Some.is (rw (← c.from-in-Some.ensures, ← c.from-in-Some-2.ensures) (sym c.marked.ensures ∙ c.if-marked.true)),
     )
 
 pub loop-label-preserved : goal.loop-label-preserved
@@ -88,8 +88,8 @@ loop-label-preserved c =
     let met = ap counted c.in-Some.is in
     let falls = c.requires.2.falls c.in-Some.l (omega (arith, met, c.loop-label.invariant.0)) in (
       omega (arith, met, falls, c.loop-label.invariant.0),
-      rw c.from-in-Some-2.ensures (gone_on known _ c.in-Some.is c.loop-label.invariant.1
-          (rw (← c.from-in-Some.ensures, ← c.from.ensures) (sym c.marked.ensures ∙ c.if-marked.false))),
+      rw c.from.ensures (gone_on known _ c.in-Some.is c.loop-label.invariant.1
+          (rw (← c.from-in-Some.ensures, ← c.from-in-Some-2.ensures) (sym c.marked.ensures ∙ c.if-marked.false))),
     )
 
 pub returns-in-steps-clause-taken : goal.returns-in-steps-clause-taken

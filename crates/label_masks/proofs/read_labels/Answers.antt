@@ -6,7 +6,7 @@ use Rattle.label_masks.proofs.LabelAdded.{none_read, one_more_read, all_read}
 use Rattle.label_masks.proofs.read_labels.Goals as goal
 
 pub loop-l-init : goal.loop-l-init
-loop-l-init c = (refl, none_read _ _)
+loop-l-init c = rw c.requires (refl, none_read _ _)
 
 pub loop-l-preserved : goal.loop-l-preserved
 loop-l-preserved c =

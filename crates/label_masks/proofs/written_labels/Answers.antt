@@ -9,7 +9,7 @@ use Rattle.label_masks.proofs.OneMore.{none_written, one_more_written, all_writt
 use Rattle.label_masks.proofs.written_labels.Goals as goal
 
 pub loop-l-init : goal.loop-l-init
-loop-l-init c = (refl, none_written _)
+loop-l-init c = rw c.requires (refl, none_written _)
 
 pub loop-l-preserved : goal.loop-l-preserved
 unfolding writer_due

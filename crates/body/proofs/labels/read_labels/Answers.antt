@@ -12,11 +12,10 @@ use Rattle.body.proofs.labels.read_labels.Goals as goal
 use Rattle.body.proofs.labels.read_labels.Goals.{In-loop-l}
 
 -- the label is taken where the labels passed end
-next_label : (c : In-loop-l) → label_fields c.loop-l.table.tasks c.loop-l.reader.image.now c.loop-l.reader.at
+next_label : (c : In-loop-l) → label_fields c.args.table.now.tasks c.loop-l.reader.image.now c.loop-l.reader.at
     ≡ label_fields c.args.table.now.tasks c.args.reader.now.image.now (c.args.reader.now.at + label_bits * c.loop-l.l)
 next_label c =
-    at_place label_fields (ap (λ table. table.tasks) c.loop-l.invariant.rest)
-    (ap (λ image. image.now) c.loop-l.invariant.image) c.loop-l.invariant.on
+    at_place label_fields refl (ap (λ image. image.now) c.loop-l.invariant.image) c.loop-l.invariant.on
 
 pub loop-l-init : goal.loop-l-init
 loop-l-init c = record {

@@ -1,0 +1,2 @@
+-- Definitions of this crate.
+pub mod ArraysShown
