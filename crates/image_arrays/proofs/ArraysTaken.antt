@@ -11,6 +11,7 @@ use Rattle.table.specs.Image.{table_of}
 use Rattle.table.specs.Shown.{nothing}
 use Rattle.table.specs.declared.Refused.{Refused}
 use Rattle.table.specs.declared.Table.{Table}
+use Rattle.body.specs.Parts.{head_in}
 use Rattle.images.specs.Parts.{WholeRead}
 use Rattle.images.proofs.WholeImage.{nothing_shown, whole_shown}
 use Rattle.image_arrays.specs.ArraysShown.{NoArrays, ArraysShown}
@@ -27,30 +28,19 @@ nothing_held is = record {
 
 module _ (image : List ℕ) {table : Table} {rows : Rows} where
   pub arrays_shown : (r : Result ℕ Refused) → is_err r ≡ false → WholeRead image r table rows → ArraysShown image r table
-  arrays_shown (Ok round) accepted whole =
-      let shown = whole_shown image whole in
-      record {
-        rows = rows;
-        whole = whole;
-        cores = ap (λ whole. whole.table.cores) (sym shown);
-        tasks = ap (λ whole. whole.table.tasks) (sym shown);
-        labels = ap (λ whole. whole.table.labels) (sym shown);
-        chains = ap (λ whole. whole.table.chains) (sym shown);
-      }
+  arrays_shown (Ok round) accepted whole = record {
+    rows = rows;
+    whole = whole;
+    counts = ap (λ whole. head_in whole.table) (sym (whole_shown image whole));
+  }
   arrays_shown (Err refused) accepted whole = absurd (cc)
 
   -- of a refused image, a table whose counts are 0
   pub none_shown : (r : Result ℕ Refused) (left : Table) → is_err r ≡ true → WholeRead image r table rows
-      → left.cores ≡ 0 → left.tasks ≡ 0 → left.labels ≡ 0 → left.chains ≡ 0 → ArraysShown image r left
-  unfolding nothing table_of
-  none_shown (Ok round) left refused whole cores tasks labels chains = absurd (cc)
-  none_shown (Err refusal) left refused whole cores tasks labels chains =
-      let shown = nothing_shown image whole in
-      record {
-        rows = rows;
-        whole = record { said = whole.said; round = tt };
-        cores = cores ∙ sym (ap (λ whole. whole.table.cores) shown);
-        tasks = tasks ∙ sym (ap (λ whole. whole.table.tasks) shown);
-        labels = labels ∙ sym (ap (λ whole. whole.table.labels) shown);
-        chains = chains ∙ sym (ap (λ whole. whole.table.chains) shown);
-      }
+      → head_in left ≡ head_in nothing.table → ArraysShown image r left
+  none_shown (Ok round) left refused whole none = absurd (cc)
+  none_shown (Err refusal) left refused whole none = record {
+    rows = rows;
+    whole = record { said = whole.said; round = tt };
+    counts = none ∙ sym (ap (λ whole. head_in whole.table) (nothing_shown image whole));
+  }

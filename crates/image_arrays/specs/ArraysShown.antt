@@ -4,6 +4,7 @@ use Rattle.table.specs.Table.{Rows}
 use Rattle.table.specs.Shown.{shown_of}
 use Rattle.table.specs.declared.Refused.{Refused}
 use Rattle.table.specs.declared.Table.{Table}
+use Rattle.body.specs.Parts.{head_in}
 use Rattle.images.specs.Parts.{WholeRead}
 
 -- arrays of tasks and labels that hold nothing
@@ -13,12 +14,9 @@ pub record NoArrays (table : Table) : Type 0 where
   pub no_writer : table.writer ≡ replicate 64 0
   pub no_readers : table.readers ≡ replicate 64 0
 
--- the image's answer with its hyperperiod, the counts that it shows, none of a refused one, and, where it is accepted, its
--- table, beside the rows of its chains
+-- the image's answer with its hyperperiod; where it is accepted its table, beside the rows of its chains; and the counts
+-- that it shows, which of a refused one are 0
 pub record ArraysShown (image : List ℕ) (r : Result ℕ Refused) (table : Table) : Type 0 where
   pub rows : Rows
   pub whole : WholeRead image r table rows
-  pub cores : table.cores ≡ (shown_of image).table.cores
-  pub tasks : table.tasks ≡ (shown_of image).table.tasks
-  pub labels : table.labels ≡ (shown_of image).table.labels
-  pub chains : table.chains ≡ (shown_of image).table.chains
+  pub counts : head_in table ≡ head_in (shown_of image).table

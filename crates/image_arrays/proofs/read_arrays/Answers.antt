@@ -4,7 +4,8 @@ use mathlib.Core.Path.{◌≡◌, refl}
 use Rattle.std.specs.Result.{is_err}
 use Rattle.std.proofs.Common.{rules}
 use Rattle.lists.specs.Lists.{padded}
-use Rattle.table.specs.Image.{rows_of}
+use Rattle.table.specs.Image.{rows_of, table_of}
+use Rattle.table.specs.Shown.{nothing}
 use Rattle.image_arrays.proofs.ArraysTaken.{arrays_shown, none_shown}
 use Rattle.image_arrays.proofs.read_arrays.Goals as goal
 
@@ -20,9 +21,10 @@ read_into-answer-requires c = record {
 }
 
 pub returns-then-is_err : goal.returns-then-is_err
+unfolding nothing table_of
 returns-then-is_err c =
     let refused : is_err c.read_into-answer.result ≡ true = search rules in
-    none_shown _ _ _ refused c.read_into-answer.ensures refl refl refl refl
+    none_shown _ _ _ refused c.read_into-answer.ensures refl
 
 pub returns-else-is_err : goal.returns-else-is_err
 returns-else-is_err c =
